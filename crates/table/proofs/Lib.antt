@@ -1,2 +1,4 @@
 pub mod Places
+pub mod Limited
+pub mod Slots
 pub mod Plains

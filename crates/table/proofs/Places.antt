@@ -2,7 +2,7 @@
 -- `is-task` is defined: the number is below 64, and its row is used and in limits; a row past the end is not used.
 use Prim.Native.Nat.{ℕ, _<_, _≤_}
 use Rattle.std.proofs.shelf.Lists.{getD-past}
-use Rattle.std.proofs.shelf.Tests.{and-from, and-left, and-parts, and-right, both-ways, cases-lt, eq-eqb, eqb-true, le-ltb, lt-ltb, ltb-true}
+use Rattle.std.proofs.shelf.Tests.{and-from, and-left, and-parts, and-right, both-ways, cases-lt, eq-eqb, eqb-true, le-ltb, lt-ltb, ltb-true, ne-eqb}
 use Rattle.table.specs.Limits.{in-limits}
 use Rattle.table.specs.Ranks.{higher-ranked}
 use Rattle.table.specs.Rows.{holds-task, is-task, on-board, on-core, past, row-at}
@@ -62,6 +62,10 @@ on-core-from rows core k h e = and-from _ _ h (eq-eqb _ core e)
 pub off-core : (rows : List Row) (core k : ℕ) → is-task rows k ≡ false → on-core rows core k ≡ false
 unfolding on-core
 off-core rows core k h = and-left (is-task rows k) (eqb (row-at rows k .core) core) h
+
+pub other-core : (rows : List Row) (core k : ℕ) → (row-at rows k .core ≡ core → ⊥) → on-core rows core k ≡ false
+unfolding on-core
+other-core rows core k h = and-right (is-task rows k) (eqb (row-at rows k .core) core) (ne-eqb _ core h)
 
 -- on the board
 

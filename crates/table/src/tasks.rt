@@ -1,6 +1,6 @@
 // The tasks of a row list, by number: made once, so that no calculation asks for the limits again.
 ghost use Rattle.table.specs.Rows.{plain, plain-row, row-at};
-ghost use Rattle.table.specs.Tasks.{listed, row-of};
+ghost use Rattle.table.specs.Tasks.{listed, row-of, slot};
 ghost use mathlib.Core.Path.{_≡_};
 use crate::row::Row;
 use crate::task::Task;
@@ -32,5 +32,17 @@ impl Tasks {
             slots[k] = task_at(rows, k);
         }
         Tasks { slots }
+    }
+
+    // The task of a number, if it has one.
+    pub fn at(&self, number: usize) -> Option<Task>
+        ensures answer { λ r. ⌜ r ≡ slot (now (self .entry)) number ⌝ }
+    {
+        if number < NUMBERS {
+            let slot = &self.slots[number];
+            *slot
+        } else {
+            None
+        }
     }
 }

@@ -1,0 +1,39 @@
+-- The laws of the two tests, from those of their rules.
+use Rattle.bounds.proofs.Agreeing.{composable-alike, composable-set, lesser-alike, lesser-set}
+use Rattle.bounds.proofs.Fewer.{composable-fewer, lesser-fewer}
+use Rattle.bounds.proofs.Lawful.{Rule-laws, laws-from}
+use Rattle.bounds.proofs.Rises.{composable-rising, lesser-rising}
+use Rattle.bounds.specs.Bounds.{composable-bound, deadline-bound}
+use Rattle.bounds.specs.Demand.{deadline}
+use Rattle.bounds.specs.Rules.{composable-rule, deadline-rule}
+use Rattle.std.proofs.shelf.Tests.{true≢false}
+use Rattle.table.specs.Tests.{Laws}
+use Rattle.table.specs.declared.row.Figures.{Figures}
+use mathlib.Core.Bool.{false, true}
+use mathlib.Core.Path.{_≡_, ap}
+
+composable-rules : Rule-laws false composable-rule
+composable-rules = record {
+  rising = composable-rising;
+  through-above = λ board rows i G H same. composable-set rows i G H same board;
+  fewer = composable-fewer;
+  alike = λ board rows other x i set on all. composable-alike rows other x i on (all x) board set;
+  own = λ _ board rows other x i set on alike. composable-alike rows other x i on alike board set;
+}
+
+deadline-rules : Rule-laws true deadline-rule
+deadline-rules = record {
+  rising = λ board rows i set on. lesser-rising board rows i set (deadline rows) on;
+  through-above = λ board rows i G H same. lesser-set rows i G H same board (deadline rows);
+  fewer = λ board rows i G H within. lesser-fewer board rows i G H within (deadline rows);
+  alike = λ board rows other x i set on all. lesser-alike rows other x i on (all x) board set (deadline rows) (deadline other) all (λ y j there. ap (λ (f : Figures). f .deadline) (all y j .1 there));
+  own = λ narrow. absurd (true≢false narrow);
+}
+
+pub composable-laws : Laws false composable-bound
+unfolding composable-bound
+composable-laws = laws-from composable-rule false composable-rules
+
+pub deadline-laws : Laws true deadline-bound
+unfolding deadline-bound
+deadline-laws = laws-from deadline-rule true deadline-rules

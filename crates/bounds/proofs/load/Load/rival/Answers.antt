@@ -1,0 +1,8 @@
+use Rattle.bounds.proofs.load.Load.rival.Needs as need
+use Rattle.table.proofs.Limited.{limited}
+use native.Mathlib.Omega.{arith}
+
+pub ghost-result : need.ghost-result
+ghost-result c =
+    let k = limited (c .args .task .now .figures) (c .args .task .now .limits) in
+    (c .pre .core, (k .period-low, (k .period-high, (c .pre .ahead, (omega arith, (k .stress-small, tt))))))
