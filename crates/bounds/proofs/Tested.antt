@@ -1,15 +1,21 @@
 -- The laws of the two tests, from those of their rules.
+use Prim.Native.Nat.{ℕ}
 use Rattle.bounds.proofs.Agreeing.{composable-alike, composable-set, lesser-alike, lesser-set}
 use Rattle.bounds.proofs.Fewer.{composable-fewer, lesser-fewer}
-use Rattle.bounds.proofs.Lawful.{Rule-laws, laws-from}
+use Rattle.bounds.proofs.Lawful.{Rule-laws, laws-from, told-least}
 use Rattle.bounds.proofs.Rises.{composable-rising, lesser-rising}
-use Rattle.bounds.specs.Bounds.{composable-bound, deadline-bound}
+use Rattle.bounds.specs.Bounds.{Bounds-least, composable-bound, deadline-bound}
 use Rattle.bounds.specs.Demand.{deadline}
 use Rattle.bounds.specs.Rules.{composable-rule, deadline-rule}
 use Rattle.std.proofs.shelf.Tests.{true≢false}
+use Rattle.std.specs.declared.option.Option.{Option}
+use Rattle.table.specs.Sets.{Set}
 use Rattle.table.specs.Tests.{Laws}
+use Rattle.table.specs.declared.board.Board.{Board}
 use Rattle.table.specs.declared.row.Figures.{Figures}
+use Rattle.table.specs.declared.row.Row.{Row}
 use mathlib.Core.Bool.{false, true}
+use mathlib.Core.List.{List}
 use mathlib.Core.Path.{_≡_, ap}
 
 composable-rules : Rule-laws false composable-rule
@@ -37,3 +43,13 @@ composable-laws = laws-from composable-rule false composable-rules
 pub deadline-laws : Laws true deadline-bound
 unfolding deadline-bound
 deadline-laws = laws-from deadline-rule true deadline-rules
+
+-- what the tests answer is the least solution of their rules
+
+pub composable-least : (board : Board) (rows : List Row) (i : ℕ) (set : Set) (answer : Option ℕ) → answer ≡ composable-bound board rows i set → Bounds-least composable-rule board rows i set answer
+unfolding composable-bound
+composable-least = told-least composable-rule
+
+pub deadline-least : (board : Board) (rows : List Row) (i : ℕ) (set : Set) (answer : Option ℕ) → answer ≡ deadline-bound board rows i set → Bounds-least deadline-rule board rows i set answer
+unfolding deadline-bound
+deadline-least = told-least deadline-rule

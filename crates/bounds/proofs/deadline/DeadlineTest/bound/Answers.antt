@@ -1,14 +1,12 @@
-use Rattle.bounds.proofs.Lawful.{told-least}
+use Rattle.bounds.proofs.Tested.{deadline-least}
 use Rattle.bounds.proofs.deadline.DeadlineTest.bound.Needs as need
 use Rattle.bounds.specs.Bounds.{deadline-bound}
-use Rattle.bounds.specs.Rules.{deadline-rule}
 use Rattle.table.specs.Sets.{Set, members}
 use mathlib.Core.Path.{_≡_, _∙_, ap}
 
 pub returns : need.returns
-unfolding deadline-bound
 returns c =
     let set : Set = members (c .args .above .now) in
     let answer : c .ask .result ≡ deadline-bound (c .args .board .now) (c .args .rows .now) (c .args .number) set =
     c .ask .ensures .answer ∙ ap (λ f. f (c .args .number) set) (c .prepare-prepared .ensures .answer) in
-    record { answer = answer; least = told-least deadline-rule _ _ _ _ _ answer }
+    record { answer = answer; least = deadline-least (c .args .board .now) (c .args .rows .now) (c .args .number) set (c .ask .result) answer }

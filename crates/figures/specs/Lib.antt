@@ -1,0 +1,3 @@
+-- In reading order.
+pub mod Tables
+pub mod Figures
