@@ -13,10 +13,11 @@ use mathlib.Core.Path.{_≡_, refl}
 use native.Mathlib.Omega.{arith}
 
 -- a solution no later than t
-abbrev Solved-by : (ℕ → ℕ) → ℕ → Type 0
+abbrev pub Solved-by : (ℕ → ℕ) → ℕ → Type 0
 Solved-by rule t = (s : ℕ) × (1 ≤ s) × (s ≤ t) × (rule s ≡ s)
 
-descends : (rule : ℕ → ℕ) → Rising rule → (n t : ℕ) → t ≤ n → 1 ≤ t → rule t ≤ t → Solved-by rule t
+-- it descends from t to a solution
+pub descends : (rule : ℕ → ℕ) → Rising rule → (n t : ℕ) → t ≤ n → 1 ≤ t → rule t ≤ t → Solved-by rule t
 descends rule up zero t few low h = absurd (omega arith)
 descends rule up (suc n) t few low h =
     elim (cases-eq (rule t) t) [

@@ -107,3 +107,19 @@ alike-no-task rows other alike j none =
       | inl task ↦ absurd (both-ways (is-task rows j) none (alike-back rows other alike j task))
       | inr free ↦ free
     ]
+
+-- so a number is on the board in both, or in neither
+pub plain-on-board : (board : Board) (rows : List Row) (k : ℕ) → on-board board (plain rows) k ≡ on-board board rows k
+unfolding on-board
+plain-on-board board rows k =
+    let alike : (x : ℕ) → Alike x rows (plain rows) = λ x. plain-alike x rows in
+    elim (cases-bool (is-task rows k)) [
+      | inl task ↦
+          let there = alike-task rows (plain rows) alike k task in
+          ap (λ b. b && ltb (row-at (plain rows) k .core) (board .cores)) (there .0 ∙ sym task)
+          ∙ ap (λ c. is-task rows k && ltb c (board .cores)) (sym (there .1))
+      | inr none ↦ off-board board (plain rows) k (alike-no-task rows (plain rows) alike k none) ∙ sym (off-board board rows k none)
+    ]
+
+pub plain-figures : (rows : List Row) (k : ℕ) → is-task rows k ≡ true → row-at (plain rows) k .figures ≡ row-at rows k .figures
+plain-figures rows k task = sym (plain-alike (row-at rows k .core) rows k .1 (on-core-from rows (row-at rows k .core) k task refl))

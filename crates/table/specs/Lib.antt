@@ -6,4 +6,5 @@ pub mod Rows
 pub mod Tasks
 pub mod Sets
 pub mod Ranks
+pub mod Firsts
 pub mod Tests

@@ -1,5 +1,5 @@
 // A set of task numbers.
-ghost use Rattle.table.specs.Sets.{members, with};
+ghost use Rattle.table.specs.Sets.{count-below, members, with, without};
 ghost use mathlib.Core.Path.{_≡_};
 use crate::tasks::NUMBERS;
 
@@ -30,5 +30,29 @@ impl TaskSet {
             flags[number] = true;
         }
         TaskSet { flags }
+    }
+
+    // The set with one number less.
+    pub fn without(self, number: usize) -> TaskSet
+        ensures answer { λ r. ⌜ members r ≡ without (members self) number ⌝ }
+    {
+        let mut flags = self.flags;
+        if number < NUMBERS {
+            flags[number] = false;
+        }
+        TaskSet { flags }
+    }
+
+    // How many numbers it has.
+    pub fn size(&self) -> usize
+        ensures answer { λ r. ⌜ r ≡ count-below (members (now (self .entry))) 64 ⌝ }
+    {
+        let mut n: usize = 0;
+        for k in 0..NUMBERS {
+            if self.flags[k] {
+                n += 1;
+            }
+        }
+        n
     }
 }
