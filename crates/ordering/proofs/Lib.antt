@@ -1,0 +1,9 @@
+pub mod Takers
+pub mod Listing
+pub mod Audsley
+pub mod Trials
+pub mod Filling
+pub mod Lawful
+pub mod Failing
+pub mod Presents
+pub mod Reranks
