@@ -2,11 +2,12 @@
 use Prim.Native.Nat.{ℕ, _*_, _+_, _-_, _/_, _<_, _≤_, suc, zero}
 use Rattle.bounds.specs.Demand.{releases}
 use Rattle.bounds.specs.Sums.{sum-over, sum-to}
-use Rattle.std.proofs.shelf.Tests.{false≢true}
+use Rattle.std.proofs.shelf.Tests.{cases-eq, false≢true}
 use Rattle.table.specs.Sets.{Set}
 use lib.Ieee.Nearest.{div-mono}
 use mathlib.Core.Bool.{Bool, cond, false, true}
-use mathlib.Core.Path.{_≡_, refl, sym}
+use mathlib.Core.Logic.{inl, inr}
+use mathlib.Core.Path.{_≡_, refl, subst, sym}
 use native.Mathlib.Nat.{div-eq-of-lt, div-le-of-le-mul, div-zero, le-refl, mul-le-mul, mul-suc, suc-mul}
 use native.Mathlib.Numerals.{add-one}
 use native.Mathlib.Omega.{arith}
@@ -24,6 +25,23 @@ unfolding sum-to
 sum-le zero f g h = omega arith
 sum-le (suc n) f g h = omega (arith, sum-le n f g (λ k l. h k (omega arith)), h n (omega arith))
 
+-- terms that are no larger and whose sum is no smaller are the same terms
+pub sum-equal : (n : ℕ) (f g : ℕ → ℕ) → ((k : ℕ) → k < n → f k ≤ g k) → sum-to n g ≤ sum-to n f → (k : ℕ) → k < n → f k ≡ g k
+unfolding sum-to
+sum-equal zero f g le e k l = absurd (omega arith)
+sum-equal (suc n) f g le e k l =
+    let front : sum-to n f ≤ sum-to n g = sum-le n f g (λ j q. le j (omega arith)) in
+    let last : f n ≤ g n = le n (omega arith) in
+    elim (cases-eq k n) [
+      | inl same ↦ subst (λ x. f x ≡ g x) (sym same) (let z : f n ≡ g n = omega arith in z)
+      | inr other ↦ sum-equal n f g (λ j q. le j (omega arith)) (omega arith) k (omega arith)
+    ]
+
+pub sum-below : (n b : ℕ) (f : ℕ → ℕ) → ((k : ℕ) → k < n → f k ≤ b) → sum-to n f ≤ n * b
+unfolding sum-to
+sum-below zero b f h = omega arith
+sum-below (suc n) b f h = omega (arith, sum-below n b f (λ k l. h k (omega arith)), h n (omega arith), suc-mul n b)
+
 pub sum-same : (n : ℕ) (f g : ℕ → ℕ) → ((k : ℕ) → k < n → f k ≡ g k) → sum-to n f ≡ sum-to n g
 unfolding sum-to
 sum-same zero f g h = refl
@@ -31,8 +49,8 @@ sum-same (suc n) f g h = omega (arith, sum-same n f g (λ k l. h k (omega arith)
 
 -- over a set: term by term, and over fewer members
 
-cond-le : (b : Bool) (x y : ℕ) → x ≤ y → cond b x 0 ≤ cond b y 0
-cond-le true x y h = h
+pub cond-le : (b : Bool) (x y : ℕ) → (b ≡ true → x ≤ y) → cond b x 0 ≤ cond b y 0
+cond-le true x y h = h refl
 cond-le false x y h = omega arith
 
 cond-fewer : (b b′ : Bool) (x : ℕ) → (b′ ≡ true → b ≡ true) → cond b′ x 0 ≤ cond b x 0
@@ -47,7 +65,7 @@ cond-same true false x x′ e h = absurd (false≢true (sym e))
 cond-same false true x x′ e h = absurd (false≢true e)
 cond-same false false x x′ e h = refl
 
-pub over-le : (set : Set) (f g : ℕ → ℕ) → ((j : ℕ) → f j ≤ g j) → sum-over set f ≤ sum-over set g
+pub over-le : (set : Set) (f g : ℕ → ℕ) → ((j : ℕ) → set j ≡ true → f j ≤ g j) → sum-over set f ≤ sum-over set g
 over-le set f g h = sum-le 64 _ _ (λ j _. cond-le (set j) (f j) (g j) (h j))
 
 pub over-fewer : (set fewer : Set) (f : ℕ → ℕ) → ((j : ℕ) → fewer j ≡ true → set j ≡ true) → sum-over fewer f ≤ sum-over set f

@@ -4,7 +4,7 @@ use Prim.Native.Nat.{ℕ, _<_, _≤_, min}
 use Rattle.bounds.proofs.Agreeing.{lesser-alike}
 use Rattle.bounds.specs.Bounds.{ahead-bound, bound-by, deadline-bound}
 use Rattle.bounds.specs.Demand.{core, deadline}
-use Rattle.bounds.specs.Gathering.{length-of}
+use Rattle.bounds.specs.Lengths.{length-of}
 use Rattle.bounds.specs.Questions.{Asks, Deadlines, deadline-in}
 use Rattle.bounds.specs.Rules.{Rule, deadline-rule, lesser-rule}
 use Rattle.bounds.specs.declared.question.Own.{Own}

@@ -38,7 +38,7 @@ module _ (board : Board) (rows : List Row) (i : ℕ) (fewer set : Set) (within :
         arith,
         execution-fewer t,
         contention-le board (core rows i) (λ r y. min (total-stress rows ahead r y t) (total-sensitivity rows i fewer r t)) (λ r y. min (total-stress rows ahead r y t) (total-sensitivity rows i set r t))
-            (λ r y. min-le-min _ _ _ _ (le-refl _) (sensitivity-fewer r t)),
+            (λ r y _. min-le-min _ _ _ _ (le-refl _) (sensitivity-fewer r t)),
       )
 
   pub composable-fewer : (t : ℕ) → composable-rule board rows i fewer t ≤ composable-rule board rows i set t
@@ -46,5 +46,5 @@ module _ (board : Board) (rows : List Row) (i : ℕ) (fewer set : Set) (within :
       omega (
         arith,
         execution-fewer t,
-        contention-le board (core rows i) (λ r _. total-sensitivity rows i fewer r t) (λ r _. total-sensitivity rows i set r t) (λ r _. sensitivity-fewer r t),
+        contention-le board (core rows i) (λ r _. total-sensitivity rows i fewer r t) (λ r _. total-sensitivity rows i set r t) (λ r _ _. sensitivity-fewer r t),
       )

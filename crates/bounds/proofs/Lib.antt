@@ -9,3 +9,9 @@ pub mod Lawful
 pub mod Tested
 pub mod Meets
 pub mod Answered
+pub mod Growing
+pub mod Listed
+pub mod Fair
+pub mod Falling
+pub mod Ended
+pub mod Checked

@@ -1,6 +1,6 @@
 -- No rule falls as the window grows: releases do not, and every rule is a sum of releases times figures, or of the
 -- lesser of two such sums. A task's rule starts at its execution time or above, so at 1 or above.
-use Prim.Native.Nat.{ℕ, _*_, _+_, _≤_, min}
+use Prim.Native.Nat.{ℕ, _*_, _+_, _<_, _≤_, min}
 use Rattle.bounds.proofs.Adding.{but-le, over-le, releases-rise, sum-le}
 use Rattle.bounds.specs.Demand.{above, core, cost, execution, period, releases, sensitivity, stress, total-sensitivity, total-stress}
 use Rattle.bounds.specs.Rules.{composable-rule, contention, lesser-rule}
@@ -23,15 +23,15 @@ pub min-le-min : (a b c d : ℕ) → a ≤ c → b ≤ d → min a b ≤ min c d
 min-le-min a b c d p q = le-min (le-trans (min-le-left a b) p) (le-trans (min-le-right a b) q)
 
 -- smaller shares make less contention
-pub contention-le : (board : Board) (x : ℕ) (f g : ℕ → ℕ → ℕ) → ((r y : ℕ) → f r y ≤ g r y) → contention board x f ≤ contention board x g
+pub contention-le : (board : Board) (x : ℕ) (f g : ℕ → ℕ → ℕ) → ((r y : ℕ) → y < board .cores → f r y ≤ g r y) → contention board x f ≤ contention board x g
 unfolding contention
-contention-le board x f g h = sum-le (board .cores) _ _ (λ y _. but-le (eqb y x) _ _ (sum-le (board .resources) _ _ (λ r _. h r y)))
+contention-le board x f g h = sum-le (board .cores) _ _ (λ y l. but-le (eqb y x) _ _ (sum-le (board .resources) _ _ (λ r _. h r y l)))
 
 -- releases in windows that do not shrink, times a weight, over a set
 weighted-rise : (set : Set) (short long periods weights : ℕ → ℕ) → ((j : ℕ) → short j ≤ long j) → sum-over set (λ j. releases (short j) (periods j) * weights j) ≤ sum-over set (λ j. releases (long j) (periods j) * weights j)
 weighted-rise set short long periods weights h =
     over-le set (λ j. releases (short j) (periods j) * weights j) (λ j. releases (long j) (periods j) * weights j)
-    (λ j. mul-le-mul-right (weights j) (releases-rise (short j) (long j) (periods j) (h j)))
+    (λ j _. mul-le-mul-right (weights j) (releases-rise (short j) (long j) (periods j) (h j)))
 
 module _ (board : Board) (rows : List Row) (i : ℕ) (set : Set) where
   execution-rises : (s t : ℕ) → s ≤ t → execution rows i set s ≤ execution rows i set t
@@ -56,7 +56,7 @@ module _ (board : Board) (rows : List Row) (i : ℕ) (set : Set) where
       arith,
       execution-rises s t l,
       contention-le board (core rows i) (λ r y. min (total-stress rows ahead r y s) (total-sensitivity rows i set r s)) (λ r y. min (total-stress rows ahead r y t) (total-sensitivity rows i set r t))
-          (λ r y. min-le-min _ _ _ _ (stress-rises ahead r y s t l) (sensitivity-rises r s t l)),
+          (λ r y _. min-le-min _ _ _ _ (stress-rises ahead r y s t l) (sensitivity-rises r s t l)),
     );
     starts = omega (arith, execution-starts on 1);
   }
@@ -66,7 +66,7 @@ module _ (board : Board) (rows : List Row) (i : ℕ) (set : Set) where
     rises = λ s t l. omega (
       arith,
       execution-rises s t l,
-      contention-le board (core rows i) (λ r _. total-sensitivity rows i set r s) (λ r _. total-sensitivity rows i set r t) (λ r _. sensitivity-rises r s t l),
+      contention-le board (core rows i) (λ r _. total-sensitivity rows i set r s) (λ r _. total-sensitivity rows i set r t) (λ r _ _. sensitivity-rises r s t l),
     );
     starts = omega (arith, execution-starts on 1);
   }

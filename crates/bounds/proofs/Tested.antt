@@ -4,9 +4,9 @@ use Rattle.bounds.proofs.Agreeing.{composable-alike, composable-set, lesser-al
 use Rattle.bounds.proofs.Fewer.{composable-fewer, lesser-fewer}
 use Rattle.bounds.proofs.Lawful.{Rule-laws, laws-from, told-least}
 use Rattle.bounds.proofs.Rises.{composable-rising, lesser-rising}
-use Rattle.bounds.specs.Bounds.{Bounds-least, composable-bound, deadline-bound}
+use Rattle.bounds.specs.Bounds.{Bounds-least, ahead-bound, composable-bound, deadline-bound}
 use Rattle.bounds.specs.Demand.{deadline}
-use Rattle.bounds.specs.Rules.{composable-rule, deadline-rule}
+use Rattle.bounds.specs.Rules.{composable-rule, deadline-rule, lesser-rule}
 use Rattle.std.proofs.shelf.Tests.{true≢false}
 use Rattle.std.specs.declared.option.Option.{Option}
 use Rattle.table.specs.Sets.{Set}
@@ -16,7 +16,7 @@ use Rattle.table.specs.declared.row.Figures.{Figures}
 use Rattle.table.specs.declared.row.Row.{Row}
 use mathlib.Core.Bool.{false, true}
 use mathlib.Core.List.{List}
-use mathlib.Core.Path.{_≡_, ap}
+use mathlib.Core.Path.{_≡_, ap, refl}
 
 composable-rules : Rule-laws false composable-rule
 composable-rules = record {
@@ -36,6 +36,16 @@ deadline-rules = record {
   own = λ narrow. absurd (true≢false narrow);
 }
 
+-- with any fixed lengths in the place of the deadlines
+lesser-rules : (ahead : ℕ → ℕ) → Rule-laws true (lesser-rule ahead)
+lesser-rules ahead = record {
+  rising = λ board rows i set on. lesser-rising board rows i set ahead on;
+  through-above = λ board rows i G H same. lesser-set rows i G H same board ahead;
+  fewer = λ board rows i G H within. lesser-fewer board rows i G H within ahead;
+  alike = λ board rows other x i set on all. lesser-alike rows other x i on (all x) board set ahead ahead all (λ y j there. refl);
+  own = λ narrow. absurd (true≢false narrow);
+}
+
 pub composable-laws : Laws false composable-bound
 unfolding composable-bound
 composable-laws = laws-from composable-rule false composable-rules
@@ -43,6 +53,10 @@ composable-laws = laws-from composable-rule false composable-rules
 pub deadline-laws : Laws true deadline-bound
 unfolding deadline-bound
 deadline-laws = laws-from deadline-rule true deadline-rules
+
+pub ahead-laws : (ahead : ℕ → ℕ) → Laws true (ahead-bound ahead)
+unfolding ahead-bound
+ahead-laws ahead = laws-from (lesser-rule ahead) true (lesser-rules ahead)
 
 -- what the tests answer is the least solution of their rules
 

@@ -42,7 +42,3 @@ Picked pick x answer = Cases answer (pick ≡ false) (λ load. (pick ≡ true) �
 -- the loads are those of the picked numbers below n
 abbrev pub Gathers : Set → (ℕ → Form) → ℕ → Loads → Type 0
 Gathers pick forms n loads = (f : Form → ℕ) → sumBy (λ x. f (form x)) (held loads) ≡ sum-to n (λ j. cond (pick j) (f (forms j)) 0)
-
--- the length that a list has for j
-abbrev pub length-of : List ℕ → ℕ → ℕ
-length-of ahead j = getD ahead j 0

@@ -1,7 +1,7 @@
 // The deadline test: for each resource and other core, contention is the lesser of what that core
 // can inflict and what the own core can suffer. It is wide.
 ghost use Rattle.bounds.specs.Bounds.{Bounds-least, ahead-bound, deadline-bound};
-ghost use Rattle.bounds.specs.Gathering.{length-of};
+ghost use Rattle.bounds.specs.Lengths.{length-of};
 ghost use Rattle.bounds.specs.Rules.{deadline-rule};
 ghost use Rattle.table.specs.Sets.{members};
 ghost use Rattle.table.specs.Tasks.{listed};

@@ -1,6 +1,7 @@
 // The one text that gathers the loads of the tasks that are picked, and who picks.
 ghost use Prim.Native.Nat.{_<_, _≤_, ℕ};
-ghost use Rattle.bounds.specs.Gathering.{Form, Gathers, Picked, higher-form, length-of, rival-form};
+ghost use Rattle.bounds.specs.Gathering.{Form, Gathers, Picked, higher-form, rival-form};
+ghost use Rattle.bounds.specs.Lengths.{length-of};
 ghost use Rattle.table.specs.Rows.{on-board, on-core, row-at};
 ghost use Rattle.table.specs.Sets.{members};
 ghost use Rattle.table.specs.Tasks.{listed};

@@ -4,6 +4,8 @@
 pub mod composable;
 // The deadline test: contention is what the other cores can inflict or the own core can suffer.
 pub mod deadline;
+// The response test: all response times of a table together.
+pub mod response;
 // What the tests keep of a board and its rows for many questions.
 pub mod prepared;
 // The recurrence of one question.

@@ -1,5 +1,6 @@
 // What the tests keep of a board and its rows, for many questions about them.
-ghost use Rattle.bounds.specs.Gathering.{Gathers, length-of, rival-form};
+ghost use Rattle.bounds.specs.Gathering.{Gathers, rival-form};
+ghost use Rattle.bounds.specs.Lengths.{length-of};
 ghost use Rattle.table.specs.Rows.{on-board, row-at};
 ghost use Rattle.table.specs.Tasks.{listed};
 use crate::load::Loads;

@@ -1,7 +1,7 @@
 // Preparing a table, and asking it.
 ghost use Prim.Native.Nat.{_≤_, ℕ};
 ghost use Rattle.bounds.specs.Bounds.{ahead-bound, composable-bound};
-ghost use Rattle.bounds.specs.Gathering.{length-of};
+ghost use Rattle.bounds.specs.Lengths.{length-of};
 ghost use Rattle.bounds.specs.Questions.{Asks, Deadlines, Found, deadline-in};
 ghost use Rattle.std.specs.Options.{Cases as BySome};
 ghost use Rattle.table.specs.Rows.{on-board, plain};

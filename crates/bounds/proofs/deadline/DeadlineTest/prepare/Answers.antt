@@ -2,7 +2,7 @@ use Rattle.bounds.proofs.Answered.{deadlines-told}
 use Rattle.bounds.proofs.Tested.{deadline-laws}
 use Rattle.bounds.proofs.deadline.DeadlineTest.prepare.Needs as need
 use Rattle.bounds.specs.Bounds.{ahead-bound, deadline-bound}
-use Rattle.bounds.specs.Gathering.{length-of}
+use Rattle.bounds.specs.Lengths.{length-of}
 use Rattle.table.specs.Tasks.{listed}
 use mathlib.Core.Path.{_≡_, _∙_, ap, fun-ext, sym}
 

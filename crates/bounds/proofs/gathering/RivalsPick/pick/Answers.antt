@@ -1,5 +1,6 @@
 use Rattle.bounds.proofs.gathering.RivalsPick.pick.Needs as need
-use Rattle.bounds.specs.Gathering.{length-of, rival-form}
+use Rattle.bounds.specs.Gathering.{rival-form}
+use Rattle.bounds.specs.Lengths.{length-of}
 use Rattle.table.proofs.Places.{on-board-core}
 use Rattle.table.specs.declared.row.Row.{Row}
 use mathlib.Core.Path.{_∙_, ap, sym}

@@ -3,7 +3,7 @@ use Rattle.bounds.proofs.Meets.{lesser-meets}
 use Rattle.bounds.proofs.Rises.{lesser-rising}
 use Rattle.bounds.proofs.prepared.RivalTable.ask.Needs as need
 use Rattle.bounds.specs.Bounds.{ahead-bound}
-use Rattle.bounds.specs.Gathering.{length-of}
+use Rattle.bounds.specs.Lengths.{length-of}
 use Rattle.bounds.specs.Questions.{lesser-side}
 use Rattle.bounds.specs.Rules.{lesser-rule}
 use Rattle.std.proofs.shelf.Tests.{cond-false}
