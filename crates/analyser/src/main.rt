@@ -1,10 +1,14 @@
-// Walks through one table: the board, each task with its figures, and what the two tests say of it.
+// Walks through one table: the board, each task with its figures and what the two tests say of it,
+// all response times together, and an order for core 0.
 use bounds::composable::Composable;
 use bounds::composable::ComposableTest;
 use bounds::deadline::Deadline;
 use bounds::deadline::DeadlineTest;
+use bounds::response::respond;
 use figures::worked_board;
 use figures::worked_rows;
+use ordering::order::Found;
+use ordering::writing::order_core;
 use std::io;
 use table::board::Board;
 use table::row::Row;
@@ -94,9 +98,64 @@ fn show_bounds(
     show_bound(rt, "composable", own, deadline)
 }
 
+// All response times together under the present ranks.
+fn show_settled(rt: &LibcRuntime, board: &Board, rows: &[Row], tasks: &Tasks) -> io::Result<()> {
+    println!(rt)?;
+    match respond(board, rows) {
+        Ok(settled) => {
+            let round = settled.round;
+            println!(rt, "The response test settles in round {round}")?;
+            for number in 0..NUMBERS {
+                if tasks.at(number).is_some() {
+                    let time = settled.bounds[number];
+                    println!(rt, "  task {number} ends within {time}")?;
+                }
+            }
+            Ok(())
+        }
+        Err(unbounded) => {
+            let number = unbounded.task;
+            let round = unbounded.round;
+            println!(
+                rt,
+                "The response test finds no bound for task {number} in round {round}"
+            )
+        }
+    }
+}
+
+// The order found for a core, and the ranks that it gives.
+fn show_order(rt: &LibcRuntime, found: &Found) -> io::Result<()> {
+    let trials = found.trials;
+    println!(rt, "  found in {trials} trials, from the lowest place up:")?;
+    for place in 0..found.order.count {
+        let number = found.order.numbers[place];
+        let rank = found.order.count - place;
+        println!(rt, "  task {number} gets rank {rank}")?;
+    }
+    Ok(())
+}
+
+// Orders a core by the deadline test and writes the ranks.
+fn order_and_show(rt: &LibcRuntime, board: &Board, rows: &mut [Row], core: u8) -> io::Result<()> {
+    println!(rt)?;
+    println!(rt, "Ordering core {core} by the deadline test")?;
+    match order_core(board, rows, core, &Deadline) {
+        Ok(found) => show_order(rt, &found),
+        Err(none) => {
+            let trials = none.trials;
+            let unplaced = none.unplaced;
+            println!(
+                rt,
+                "  no order passes: {trials} trials, {unplaced} tasks unplaced"
+            )
+        }
+    }
+}
+
 fn main(rt: LibcRuntime) -> io::Result<()> {
     let board = worked_board();
-    let rows = worked_rows();
+    let mut rows = worked_rows();
     show_board(&rt, &board)?;
     let tasks = Tasks::of(&rows);
     for number in 0..NUMBERS {
@@ -110,5 +169,6 @@ fn main(rt: LibcRuntime) -> io::Result<()> {
             show_bounds(&rt, &board, &rows, number, &task)?;
         }
     }
-    Ok(())
+    show_settled(&rt, &board, &rows, &tasks)?;
+    order_and_show(&rt, &board, &mut rows, 0)
 }

@@ -3,4 +3,6 @@
 #[cfg(test)]
 mod bounded;
 #[cfg(test)]
+mod ordered;
+#[cfg(test)]
 mod rules;

@@ -174,5 +174,8 @@ fn sets() -> Result<(), Fail> {
     check(set.has(0))?;
     check(!set.has(1))?;
     check(set.has(63))?;
-    check(!set.has(64))
+    check(!set.has(64))?;
+    check_eq(set.size(), 2)?;
+    check(!set.without(0).has(0))?;
+    check_eq(set.without(5).without(64).size(), 2)
 }

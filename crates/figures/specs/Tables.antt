@@ -29,6 +29,10 @@ worked-rows = empty-row ∷ task-row 0 1 2 10 10 1 1 ∷ task-row 0 2 3 20 12 2 
 abbrev pub tight-rows : List Row
 tight-rows = task-row 0 1 6 12 12 0 0 ∷ task-row 0 2 6 12 12 0 0 ∷ []
 
+-- and that do not fit into 11
+abbrev pub tighter-rows : List Row
+tighter-rows = task-row 0 1 6 11 11 0 0 ∷ task-row 0 2 6 11 11 0 0 ∷ []
+
 -- one sensitive task that nobody stresses
 abbrev pub lone-rows : List Row
 lone-rows = task-row 0 1 5 20 20 2 0 ∷ []

@@ -5,7 +5,7 @@ use table::row::Row;
 use table::set::TaskSet;
 
 #[derive(Clone, Copy, PartialEq, Eq)]
-pub enum Kind {
+pub(crate) enum Kind {
     Composable,
     Deadline,
 }
@@ -15,7 +15,7 @@ fn small(n: u32) -> bool {
 }
 
 // The task in a place: none past 63, in an unused row or in one that breaks a limit.
-fn task(rows: &[Row], place: usize) -> Option<Row> {
+pub(crate) fn task(rows: &[Row], place: usize) -> Option<Row> {
     if place > 63 || place >= rows.len() {
         return None;
     }
@@ -44,7 +44,7 @@ fn at(xs: [u32; 4], r: usize) -> u64 {
     if r < 4 { xs[r] as u64 } else { 0 }
 }
 
-// What is asked: how many releases of the tasks above, each times its C or its X.
+// Releases of the tasks above, each times its C, or its X for a resource.
 fn from_above(
     rows: &[Row],
     i: usize,
@@ -68,13 +68,13 @@ fn from_above(
     sum
 }
 
-// What the tasks of one core inflict.
-fn from_core(rows: &[Row], core: u8, t: u64, r: usize) -> u64 {
+// What the tasks of one core inflict, their releases counted from a length before the window.
+fn from_core(rows: &[Row], core: u8, t: u64, r: usize, ahead: &[u32; 64]) -> u64 {
     let mut sum: u64 = 0;
     for j in 0..rows.len() {
         if let Some(other) = task(rows, j) {
-            if other.core == core {
-                let window = t.saturating_add(other.figures.deadline as u64);
+            if other.core == core && j < 64 {
+                let window = t.saturating_add(ahead[j] as u64);
                 let releases = up(window, other.figures.period as u64);
                 sum = sum.saturating_add(releases.saturating_mul(at(other.figures.stress, r)));
             }
@@ -83,29 +83,33 @@ fn from_core(rows: &[Row], core: u8, t: u64, r: usize) -> u64 {
     sum
 }
 
-fn right_side(
-    kind: Kind,
-    board: &Board,
-    rows: &[Row],
-    i: usize,
-    me: &Row,
-    above: &TaskSet,
-    t: u64,
-) -> u64 {
-    let mut sum = (me.figures.cost as u64).saturating_add(from_above(rows, i, me, above, t, None));
-    for r in 0..board.resources as usize {
-        let suffered = at(me.figures.sensitivity, r).saturating_add(from_above(
-            rows,
-            i,
-            me,
-            above,
-            t,
-            Some(r),
-        ));
-        for y in 0..board.cores {
+// A question: of which task, with which above it, and from which lengths.
+#[derive(Clone, Copy)]
+pub(crate) struct Question<'a> {
+    pub(crate) kind: Kind,
+    pub(crate) board: Board,
+    pub(crate) rows: &'a [Row],
+    pub(crate) number: usize,
+    pub(crate) above: TaskSet,
+    pub(crate) ahead: [u32; 64],
+}
+
+fn right_side(q: &Question<'_>, me: &Row, t: u64) -> u64 {
+    let mut sum = (me.figures.cost as u64).saturating_add(from_above(
+        q.rows,
+        q.number,
+        me,
+        &q.above,
+        t,
+        None,
+    ));
+    for r in 0..q.board.resources as usize {
+        let above = from_above(q.rows, q.number, me, &q.above, t, Some(r));
+        let suffered = at(me.figures.sensitivity, r).saturating_add(above);
+        for y in 0..q.board.cores {
             if y != me.core {
-                let inflicted = from_core(rows, y, t, r);
-                let share = if kind == Kind::Composable || suffered < inflicted {
+                let inflicted = from_core(q.rows, y, t, r, &q.ahead);
+                let share = if q.kind == Kind::Composable || suffered < inflicted {
                     suffered
                 } else {
                     inflicted
@@ -117,15 +121,26 @@ fn right_side(
     sum
 }
 
-pub fn bound(kind: Kind, board: &Board, rows: &[Row], i: usize, above: &TaskSet) -> Option<u32> {
-    let me = task(rows, i)?;
-    if me.core >= board.cores {
+pub(crate) fn bound(q: &Question<'_>) -> Option<u32> {
+    let me = task(q.rows, q.number)?;
+    if me.core >= q.board.cores {
         return None;
     }
     for t in 1..=me.figures.deadline {
-        if right_side(kind, board, rows, i, &me, above, t as u64) == t as u64 {
+        if right_side(q, &me, t as u64) == t as u64 {
             return Some(t);
         }
     }
     None
+}
+
+// The deadlines, by number.
+pub(crate) fn deadlines(rows: &[Row]) -> [u32; 64] {
+    let mut all = [0; 64];
+    for k in 0..64 {
+        if let Some(row) = task(rows, k) {
+            all[k] = row.figures.deadline;
+        }
+    }
+    all
 }

@@ -2,12 +2,12 @@
 ghost use Prim.Native.Nat.{_-_, _≤_};
 
 #[derive(Clone, Copy)]
-pub struct Random {
+pub(crate) struct Random {
     state: u64,
 }
 
 impl Random {
-    pub fn new(seed: u64) -> Random {
+    pub(crate) fn new(seed: u64) -> Random {
         Random { state: seed }
     }
 
@@ -19,7 +19,7 @@ impl Random {
     }
 
     // A number below a bound, or 0 where the bound is 0.
-    pub fn below(&mut self, bound: u32) -> u32
+    pub(crate) fn below(&mut self, bound: u32) -> u32
         ensures { λ r. ⌜ r ≤ bound - 1 ⌝ }
     {
         let drawn = self.next();
@@ -30,12 +30,12 @@ impl Random {
     }
 
     // A number from 1 to a limit.
-    pub fn up_to(&mut self, limit: u32) -> u32 {
+    pub(crate) fn up_to(&mut self, limit: u32) -> u32 {
         self.below(limit).saturating_add(1)
     }
 
     // One time in so many.
-    pub fn one_in(&mut self, n: u32) -> bool {
+    pub(crate) fn one_in(&mut self, n: u32) -> bool {
         self.below(n) == 0
     }
 }

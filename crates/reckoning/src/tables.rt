@@ -9,15 +9,15 @@ use table::set::TaskSet;
 
 // How a table is drawn.
 #[derive(Clone, Copy)]
-pub struct Shape {
-    pub rows: usize,
+struct Shape {
+    rows: usize,
     // Periods are below this.
     longest: u32,
     // Costs, sensitivities and stresses are below this.
     heaviest: u32,
 }
 
-pub fn draw_board(random: &mut Random) -> Board {
+fn draw_board(random: &mut Random) -> Board {
     let cores = 1 + random.below(4) as u8;
     let resources = random.below(5) as u8;
     match Board::new(cores, resources) {
@@ -29,7 +29,7 @@ pub fn draw_board(random: &mut Random) -> Board {
     }
 }
 
-pub fn draw_shape(random: &mut Random) -> Shape
+fn draw_shape(random: &mut Random) -> Shape
     ensures { λ r. ⌜ r .rows ≤ 70 ⌝ }
 {
     let rows = if random.one_in(40) {
@@ -107,13 +107,30 @@ fn draw_row(random: &mut Random, shape: &Shape) -> Row {
     }
 }
 
-pub fn fill(rows: &mut [Row; 70], random: &mut Random, shape: &Shape) {
+// A random board, and the first `count` of these rows.
+#[derive(Clone, Copy)]
+pub(crate) struct Table {
+    pub(crate) board: Board,
+    pub(crate) rows: [Row; 70],
+    pub(crate) count: usize,
+    ghost few: { count ≤ 70 },
+}
+
+pub(crate) fn draw_table(random: &mut Random) -> Table {
+    let board = draw_board(random);
+    let shape = draw_shape(random);
+    let mut rows = [Row::EMPTY; 70];
     for k in 0..70 {
-        rows[k] = draw_row(random, shape);
+        rows[k] = draw_row(random, &shape);
+    }
+    Table {
+        board,
+        rows,
+        count: shape.rows,
     }
 }
 
-pub fn draw_set(random: &mut Random) -> TaskSet {
+pub(crate) fn draw_set(random: &mut Random) -> TaskSet {
     let mut all = TaskSet::EMPTY;
     for k in 0..64 {
         if random.one_in(2) {
