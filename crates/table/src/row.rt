@@ -46,8 +46,8 @@ impl Row {
     };
 
     // Whether it counts as a task's row wherever it stands.
-    pub(crate) fn holds_task(&self) -> bool
-        ensures { λ r. ⌜ r ≡ holds-task (now (self .entry)) ⌝ }
+    pub fn holds_task(&self) -> bool
+        ensures answer { λ r. ⌜ r ≡ holds-task (now (self .entry)) ⌝ }
     {
         self.used & self.figures.in_limits()
     }

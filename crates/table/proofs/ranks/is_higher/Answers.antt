@@ -8,7 +8,7 @@ use mathlib.Core.Path.{_≡_, sym}
 
 pub returns-then-other-lt-NUMBERS : need.returns-then-other-lt-NUMBERS
 unfolding higher-ranked on-core is-task
-returns-then-other-lt-NUMBERS c = rw (lt-ltb (c .args .other) 64 (c .if-other-lt-NUMBERS .taken), c .holds-task .ensures)
+returns-then-other-lt-NUMBERS c = rw (lt-ltb (c .args .other) 64 (c .if-other-lt-NUMBERS .taken), c .holds-task .ensures .answer)
 
 pub returns-else-number-rows : need.returns-else-number-rows
 returns-else-number-rows c =

@@ -7,7 +7,7 @@ use mathlib.Core.Path.{_≡_, sym}
 
 pub returns-then-number-lt-NUMBERS : need.returns-then-number-lt-NUMBERS
 unfolding on-core is-task
-returns-then-number-lt-NUMBERS c = rw (lt-ltb (c .args .number) 64 (c .if-number-lt-NUMBERS .taken), c .holds-task .ensures)
+returns-then-number-lt-NUMBERS c = rw (lt-ltb (c .args .number) 64 (c .if-number-lt-NUMBERS .taken), c .holds-task .ensures .answer)
 
 pub returns-else-number-rows : need.returns-else-number-rows
 returns-else-number-rows c =
