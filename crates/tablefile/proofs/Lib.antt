@@ -1,0 +1,12 @@
+pub mod Spelled
+pub mod Checked
+pub mod Laid
+pub mod Walked
+pub mod Pasted
+pub mod Lengths
+pub mod Placed
+pub mod Numbered
+pub mod Written
+pub mod Passing
+pub mod Restored
+pub mod Returned
