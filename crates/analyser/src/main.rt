@@ -1,5 +1,7 @@
 // Walks through one table: the board, each task with its figures and what the two tests say of it,
-// all response times together, and an order for core 0.
+// all response times together, the table as a file, and an order for core 0.
+mod filed;
+
 use bounds::composable::Composable;
 use bounds::composable::ComposableTest;
 use bounds::deadline::Deadline;
@@ -7,6 +9,7 @@ use bounds::deadline::DeadlineTest;
 use bounds::response::respond;
 use figures::worked_board;
 use figures::worked_rows;
+use filed::show_file;
 use ordering::order::Found;
 use ordering::writing::order_core;
 use std::io;
@@ -170,5 +173,6 @@ fn main(rt: LibcRuntime) -> io::Result<()> {
         }
     }
     show_settled(&rt, &board, &rows, &tasks)?;
+    show_file(&rt, &board, &rows)?;
     order_and_show(&rt, &board, &mut rows, 0)
 }
