@@ -67,7 +67,7 @@ pub numbers-few : (rows : List Row) → length (numbers rows) ≤ 64
 unfolding numbers
 numbers-few rows = length-tasks rows 64
 
-pub numbers-tasks : (rows : List Row) (p : ℕ) → p < length (numbers rows) → is-task rows (getD (numbers rows) p 0) ≡ true
+numbers-tasks : (rows : List Row) (p : ℕ) → p < length (numbers rows) → is-task rows (getD (numbers rows) p 0) ≡ true
 unfolding numbers
 numbers-tasks rows p h = each-task rows 64 p h
 

@@ -19,7 +19,7 @@ unfolding pasted
 length-pasted out at bs h = simp (length-append, length-take, length-drop) (omega arith)
 
 -- nothing written
-pub pasted-none : (out : List ℕ) (at : ℕ) → pasted out at [] ≡ out
+pasted-none : (out : List ℕ) (at : ℕ) → pasted out at [] ≡ out
 unfolding pasted
 pasted-none out at = ap (λ k. take at out ++ drop k out) (omega arith) ∙ take-append-drop at out
 

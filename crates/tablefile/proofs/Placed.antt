@@ -13,7 +13,7 @@ use mathlib.Core.List.{List}
 use mathlib.Core.Path.{_≡_, _∙_, ap}
 use native.Mathlib.Omega.{arith}
 
-pub place-in : (rs : List Record) (p : ℕ) → p < length rs → place-bytes rs p ≡ record-bytes (getD rs p no-record)
+place-in : (rs : List Record) (p : ℕ) → p < length rs → place-bytes rs p ≡ record-bytes (getD rs p no-record)
 unfolding place-bytes
 place-in rs p h = ap (λ b. cond b (record-bytes (getD rs p no-record)) (zeros 48)) (lt-ltb p (length rs) h)
 

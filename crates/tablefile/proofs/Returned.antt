@@ -1,12 +1,11 @@
 -- A file that was written reads back as the same rows.
 use Prim.Native.Nat.{ℕ, _%_, _*_, _+_, _-_, _/_, _<_, _≤_}
 use Rattle.std.proofs.shelf.Lists.{append-nil, drop-drop, drop-map, drop-take, getD-drop, getD-map, getD-take, length-map, length-take, take-all, take-at, take-map, take-take}
-use Rattle.std.proofs.shelf.Tests.{and-from, eq-eqb, le-leb}
-use Rattle.std.specs.declared.option.Option.the-variants.{None, Some}
+use Rattle.std.proofs.shelf.Tests.{eq-eqb, le-leb}
+use Rattle.std.specs.declared.option.Option.the-variants.{None}
 use Rattle.table.proofs.Places.{task-holds}
 use Rattle.table.specs.Rows.{is-task}
 use Rattle.table.specs.declared.board.Board.{Board}
-use Rattle.table.specs.declared.refusal.Refusal.the-variants.{FileLength}
 use Rattle.table.specs.declared.row.Row.{Row}
 use Rattle.tablefile.proofs.Laid.{laid-cut, laid-ones, laid-same, part-laid}
 use Rattle.tablefile.proofs.Lengths.{length-block, length-file}
@@ -21,9 +20,8 @@ use Rattle.tablefile.specs.Parts.{laid, part}
 use Rattle.tablefile.specs.Reading.{block-at, count-at, record-at, record-of, records-at, records-of}
 use Rattle.tablefile.specs.Refusing.{block-refusal, length-refusal}
 use Rattle.tablefile.specs.Writing.{Reads-back, buffer-after}
-use lib.Dec.{eqb, leb}
 use lib.ListN.{drop, getD, length, take}
-use mathlib.Core.Bool.{cond, true}
+use mathlib.Core.Bool.{true}
 use mathlib.Core.List.{List, [], _∷_}
 use mathlib.Core.Path.{_≡_, _∙_, ap, subst, sym}
 use native.Mathlib.Nat.{mul-div-cancel-left}
@@ -55,6 +53,10 @@ module _ (board : Board) (rows : List Row) where
   abbrev count : ℕ
   count = blocks-for (length (numbers rows))
 
+  file-blocks : length file / 512 ≡ count
+  file-blocks = ap (λ n. n / 512) (length-file board rows) ∙ mul-div-cancel-left count {n = 512} (omega arith)
+
+  -- what stands in the file: block k, its count, and each record
   block-found : (k : ℕ) → k < count → block-at file k ≡ block-bytes board k (in-block rows k)
   unfolding file-bytes
   block-found k h =
@@ -81,6 +83,7 @@ module _ (board : Board) (rows : List Row) where
       ∙ place-of rows ns p l in
       ap record-of found ∙ record-back (entry rows (getD ns p 0)) (task-holds rows (getD ns p 0) task) (whole (getD ns p 0) task)
 
+  -- so the records of a block, and of the whole file, are those of the tasks
   block-records : Whole rows → (k : ℕ) → k < count → records-at file k ≡ in-block rows k
   block-records whole k h =
       let ns = part (numbers rows) (10 * k) 10 in
@@ -96,19 +99,18 @@ module _ (board : Board) (rows : List Row) where
   unfolding records-of
   file-records whole =
       let es = records-for rows (numbers rows) in
-      let blocks : length file / 512 ≡ count = ap (λ n. n / 512) (length-file board rows) ∙ mul-div-cancel-left count {n = 512} (omega arith) in
       let few : length es ≤ 10 * count = omega (arith, length-map (numbers rows) (entry rows), blocks-hold (length (numbers rows))) in
-      ap (λ n. laid n (records-at file)) blocks
+      ap (λ n. laid n (records-at file)) file-blocks
       ∙ laid-same count (records-at file) (λ k. take 10 (drop (10 * k) es))
       (λ k h. block-records whole k h ∙ sym (take-map (entry rows) 10 (drop (10 * k) (numbers rows))) ∙ sym (ap (take 10) (drop-map (entry rows) (10 * k) (numbers rows))))
       ∙ laid-cut 10 count es
       ∙ take-all (10 * count) es few
 
+  -- and every check passes
   file-sound : (k : ℕ) → k < length file / 512 → block-refusal board k (block-at file k) ≡ None
   file-sound k h =
-      let blocks : length file / 512 ≡ count = ap (λ n. n / 512) (length-file board rows) ∙ mul-div-cancel-left count {n = 512} (omega arith) in
       let few : count ≤ 7 = blocks-few (length (numbers rows)) (numbers-few rows) in
-      let less : k < count = omega arith in
+      let less : k < count = omega (arith, file-blocks) in
       ap (block-refusal board k) (block-found k less) ∙ block-passes board k (in-block rows k) (omega arith) (block-few rows k)
 
   file-long : length-refusal (length file) ≡ None
@@ -116,10 +118,7 @@ module _ (board : Board) (rows : List Row) where
       let few : count ≤ 7 = blocks-few (length (numbers rows)) (numbers-few rows) in
       let some : 1 ≤ count = blocks-some (length (numbers rows)) in
       let long : length file ≡ 512 * count = length-file board rows in
-      ap (λ b. cond b None (Some FileLength))
-      (and-from _ (eqb (length file % 512) 0)
-      (and-from (leb 1 (length file)) (leb (length file) 32768) (le-leb 1 (length file) (omega arith)) (le-leb (length file) 32768 (omega arith)))
-      (eq-eqb (length file % 512) 0 (omega arith)))
+      rw (le-leb 1 (length file) (omega arith), le-leb (length file) 32768 (omega arith), eq-eqb (length file % 512) 0 (omega arith))
 
   reads-back : Whole rows → Reads-back board rows file
   reads-back whole = record { length-passes = file-long; blocks-pass = file-sound; same-rows = file-records whole }

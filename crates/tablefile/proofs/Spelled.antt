@@ -33,9 +33,6 @@ four-spell (a ∷ b ∷ []) h = absurd (omega arith)
 four-spell (a ∷ b ∷ c ∷ []) h = absurd (omega arith)
 four-spell (a ∷ b ∷ c ∷ d ∷ bs) h = omega arith
 
-pub two-spelled : (n : ℕ) → n / 256 % 256 ∷ n % 256 ∷ [] ≡ spelled 2 n
-two-spelled n = refl
-
 pub four-spelled : (n : ℕ) → n / 16777216 % 256 ∷ n / 65536 % 256 ∷ n / 256 % 256 ∷ n % 256 ∷ [] ≡ spelled 4 n
 four-spelled n =
     let a : n / 16777216 ≡ n / 256 / 256 / 256 = omega arith in
