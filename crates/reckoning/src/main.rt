@@ -8,6 +8,8 @@ use random::Random;
 use std::io;
 use tally::Tally;
 
+// The file of a table, byte by byte.
+mod files;
 // Single questions, reckoned as they are told.
 mod naive;
 // Orders, by trying them all.
@@ -20,6 +22,8 @@ mod settled;
 mod tables;
 // Both ways, side by side.
 mod compare;
+// Files, both ways.
+mod written;
 // How many questions there were, and how many differed.
 mod tally;
 
@@ -30,6 +34,7 @@ fn main(rt: LibcRuntime) -> io::Result<()> {
     let mut bounds = Tally::new();
     let mut orders = Tally::new();
     let mut rounds = Tally::new();
+    let mut files = Tally::new();
     for _ in 0..TABLES {
         let table = tables::draw_table(&mut random);
         compare::all_bounds(&mut bounds, &mut random, &table);
@@ -37,9 +42,11 @@ fn main(rt: LibcRuntime) -> io::Result<()> {
             compare::one_order(&mut orders, &table, core);
         }
         compare::settling(&mut rounds, &table);
+        written::file(&mut files, &mut random, &table);
     }
     println!(rt, "tables {TABLES}")?;
     bounds.show(&rt, "bounds")?;
     orders.show(&rt, "orders")?;
-    rounds.show(&rt, "settlings")
+    rounds.show(&rt, "settlings")?;
+    files.show(&rt, "files")
 }
