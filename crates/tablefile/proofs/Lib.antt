@@ -9,4 +9,5 @@ pub mod Numbered
 pub mod Written
 pub mod Passing
 pub mod Restored
+pub mod Kept
 pub mod Returned

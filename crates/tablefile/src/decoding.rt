@@ -1,5 +1,6 @@
 // A record's bytes as a number, the byte after the rank, and a row.
 ghost use Prim.Native.Nat.{_≤_};
+ghost use Rattle.tablefile.specs.Layout.{record-bytes};
 ghost use Rattle.tablefile.specs.Reading.{four-at, number-at, record-of};
 ghost use lib.ListN.{drop, length};
 ghost use mathlib.Core.Path.{_≡_};
@@ -35,6 +36,7 @@ fn next_four(bytes: &[u8]) -> ([u32; 4], &[u8])
 // The record that 48 bytes spell; bytes of another length spell an empty one.
 pub fn decode(bytes: &[u8]) -> Record
     ensures answer { λ r. ⌜ r ≡ record-of (now (bytes .entry)) ⌝ }
+    ensures nothing_lost { λ r. ⌜ (length (now (bytes .entry)) ≡ 48 → record-bytes r ≡ now (bytes .entry)) ⌝ }
 {
     if bytes.len() != 48 {
         return Record {

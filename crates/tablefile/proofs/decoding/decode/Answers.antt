@@ -1,9 +1,10 @@
 use Prim.Native.Nat.{ℕ, _-_}
 use Rattle.std.proofs.shelf.Lists.{length-drop, take-rest}
 use Rattle.std.proofs.shelf.Tests.{eq-eqb}
+use Rattle.tablefile.proofs.Kept.{bytes-kept}
 use Rattle.tablefile.proofs.Walked.{four-later, rest-later, word-later}
 use Rattle.tablefile.proofs.decoding.decode.Needs as need
-use Rattle.tablefile.specs.Layout.{no-record}
+use Rattle.tablefile.specs.Layout.{no-record, record-bytes}
 use Rattle.tablefile.specs.Reading.{record-of, spelled-record}
 use Rattle.tablefile.specs.declared.records.Record.{Record}
 use borrow.Author.Needs.{needs}
@@ -53,4 +54,5 @@ returns c =
     (c .next-word-deadline .ensures .value ∙ word-later bs r2 12 0 (e .1))
     (c .next-four .ensures .value ∙ four-later bs r3 16 (e .2))
     (c .next-four-in-len4-up .ensures .value ∙ four-later bs r4 32 (e .3)) in
-    record { answer = spelled ∙ sym (ap (λ t. cond t (spelled-record bs) no-record) (eq-eqb (length bs) 48 (c .if-bytes-ne48 .left))) }
+    let answer = spelled ∙ sym (ap (λ t. cond t (spelled-record bs) no-record) (eq-eqb (length bs) 48 (c .if-bytes-ne48 .left))) in
+    record { answer = answer; nothing-lost = λ long. ap record-bytes answer ∙ bytes-kept bs long (λ i. omega (arith, c .typed .bytes i)) }
