@@ -1,5 +1,5 @@
 // Random tables, each question answered twice: by the analyser, and by a naive reckoning that shares
-// no code and no idea with it. It prints how many questions there were and how many differed.
+// only its boards, rows and sets. It prints how many questions there were and how many differed.
 use bounds::composable::Composable;
 use bounds::composable::ComposableTest;
 use bounds::deadline::Deadline;
