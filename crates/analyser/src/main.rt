@@ -1,5 +1,7 @@
 // Walks through one table: the board, each task with its figures and what the two tests say of it,
 // all response times together, the table as a file, and an order for core 0.
+#![tactic(auto)]
+
 mod filed;
 
 use bounds::composable::Composable;

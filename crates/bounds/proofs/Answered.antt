@@ -1,6 +1,6 @@
 -- The climb over a question's right side answers the bound by the rule: the two are the same function, it rises, and
 -- the limit is the task's deadline, which is no longer than the longest window.
-use Rattle.std.proofs.Common.{◌≡◌, ℕ, ◌<◌, ◌≤◌, min, Bool, true, false, cond, List, get_or, Some, None, Option, sym, refl, ap, ◌∙◌, subst, arith}
+use Rattle.std.proofs.Common.{◌≡◌, ℕ, ◌≤◌, min, Bool, true, false, cond, List, Some, None, Option, sym, refl, ap, ◌∙◌, subst, arith}
 use Rattle.bounds.specs.Agreeing.{lesser_alike}
 use Rattle.bounds.specs.Bounds.{ahead_bound, bound_by, deadline_bound}
 use Rattle.bounds.specs.Demand.{core, deadline}

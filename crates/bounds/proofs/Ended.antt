@@ -1,9 +1,9 @@
 -- What an answer of the rounds means: the round that ends them is the first of its kind, and its list is the least joint
 -- solution, or there is none. By induction over the rounds, from the fair starting list.
-use Rattle.std.proofs.Common.{◌≡◌, ℕ, zero, suc, ◌+◌, ◌<◌, true, false, List, Some, None, Ok, Err, Option, Result, sym, refl, ap, ◌∙◌, subst, inl, inr, arith}
+use Rattle.std.proofs.Common.{◌≡◌, ℕ, zero, suc, ◌+◌, false, List, Some, Ok, Err, Option, Result, sym, refl, ap, ◌∙◌, subst, inl, inr, arith}
 use Rattle.bounds.proofs.Fair.{Fair, fair_next, fair_start, least_joint, no_joint, refused_parts}
 use Rattle.bounds.proofs.Listed.{same_decides}
-use Rattle.bounds.specs.Endings.{Ends, Moving, RefusedIn, SettledIn, list_in, list_of, next_list}
+use Rattle.bounds.specs.Endings.{Ends, Moving, list_in, list_of, next_list}
 use Rattle.bounds.specs.Rounds.{Answer, ended, response, round_after, rounds, same, settled, start, the_answer}
 use Rattle.bounds.specs.Solutions.{SettlesLeast}
 use Rattle.std.proofs.lemmas.Bool.{both_ways, cases_Bool, cases_eq, cond-false, cond-true}

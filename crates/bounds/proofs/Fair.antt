@@ -3,19 +3,18 @@
 -- starting list is fair, since a recurrence is at least the execution time; and a round of a fair list is fair again,
 -- since recurrences grow with the list. So a round that changes nothing is the least joint solution, and where a task has
 -- no bound there is none.
-use Rattle.std.proofs.Common.{◌≡◌, ℕ, ◌+◌, ◌-◌, ◌<◌, ◌≤◌, Bool, true, false, cond, List, length, Some, None, Ok, Err, Option, sym, refl, ◌∙◌, inl, inr, arith}
+use Rattle.std.proofs.Common.{◌≡◌, ℕ, ◌<◌, ◌≤◌, Bool, true, false, cond, List, length, Some, None, Ok, Err, Option, sym, refl, ◌∙◌, inl, inr, arith}
 use Rattle.bounds.proofs.Growing.{NoLarger, none_unsolved, rule_cost, solved_below, some_least}
 use Rattle.bounds.proofs.Listed.{EachErr, EachOk, each_at, each_err, each_ok, each_size}
 use Rattle.bounds.specs.Demand.{cost, deadline}
 use Rattle.bounds.specs.Lengths.{length_of}
 use Rattle.bounds.specs.Rounds.{bound_after, round_after, start}
-use Rattle.bounds.specs.Solutions.{JointSolution, LeastJoint, Solves, recurrence}
-use Rattle.bounds.specs.Sums.{sum_to}
+use Rattle.bounds.specs.Solutions.{JointSolution, LeastJoint, recurrence}
 use Rattle.least.specs.Least.{Least}
 use Rattle.std.proofs.lemmas.List.{get_or_past}
-use Rattle.std.proofs.lemmas.Bool.{both_ways, cases_Bool, cases_lt, cond-false, cond-true}
+use Rattle.std.proofs.lemmas.Bool.{cases_Bool, cases_lt, cond-false, cond-true}
 use Rattle.table.proofs.Limited.{Limited, limited}
-use Rattle.table.proofs.Places.{off_board, no_task_past, on_board_task, task_below, task_limits}
+use Rattle.table.proofs.Places.{on_board_task, task_below, task_limits}
 use Rattle.table.specs.Ranks.{higher_ranked}
 use Rattle.table.specs.Rows.{on_board, row_at}
 use Rattle.table.specs.declared.board.Board.{Board}

@@ -1,14 +1,13 @@
 -- The rounds end. What the tasks have left to their deadlines falls with every round that changes something: no task has
 -- more left than before, and if all had as much left, the lists would be the same. At most 64 times 10,000,000 is left
 -- at the start, so the rounds of the definition suffice.
-use Rattle.std.proofs.Common.{◌≡◌, ℕ, zero, suc, ◌+◌, ◌-◌, ◌<◌, ◌≤◌, Bool, true, false, cond, List, Some, None, Ok, Err, Option, Result, sym, refl, ap, ◌∙◌, subst, inl, inr, arith}
+use Rattle.std.proofs.Common.{◌≡◌, ℕ, suc, ◌+◌, ◌-◌, ◌<◌, ◌≤◌, false, cond, List, Some, Ok, Err, sym, ap, ◌∙◌, inl, inr, arith}
 use Rattle.bounds.specs.Adding.{cond_le, sum_below, sum_equal}
-use Rattle.bounds.proofs.Fair.{Fair, fair_next, fair_start, in_limits_there, least_joint, next_least, no_joint, rises}
+use Rattle.bounds.proofs.Fair.{Fair, fair_next, in_limits_there, next_least, rises}
 use Rattle.bounds.proofs.Listed.{same_decides}
 use Rattle.bounds.specs.Demand.{deadline}
 use Rattle.bounds.specs.Lengths.{length_of}
-use Rattle.bounds.specs.Rounds.{Answer, ended, response, round_after, rounds, same, settled, start, the_answer}
-use Rattle.bounds.specs.Solutions.{SettlesLeast}
+use Rattle.bounds.specs.Rounds.{ended, response, round_after, rounds, same, start}
 use Rattle.bounds.specs.Sums.{sum_to}
 use Rattle.std.proofs.lemmas.List.{ext_get_or}
 use Rattle.std.proofs.lemmas.Bool.{both_ways, cases_Bool, cases_lt, cond-false, cond-true}

@@ -1,7 +1,7 @@
 -- The right sides that are computed from loads are the rules. Whatever is summed over gathered loads is summed over the
 -- tasks that they stand for, so execution, what is suffered and what is inflicted agree; and a sum of one and the same
 -- share over every core but one is a product.
-use Rattle.std.proofs.Common.{◌≡◌, ℕ, zero, suc, ◌+◌, ◌-◌, ◌*◌, ◌<◌, ◌≤◌, min, Bool, true, false, cond, ◌&&◌, eqb, ltb, List, get_or, sum_by, sym, refl, ap, ◌∙◌, subst, inl, inr, add-zero, suc-mul, arith}
+use Rattle.std.proofs.Common.{◌≡◌, ℕ, zero, suc, ◌+◌, ◌-◌, ◌*◌, ◌<◌, ◌≤◌, min, Bool, true, false, cond, ◌&&◌, eqb, ltb, List, get_or, sum_by, sym, refl, ap, ◌∙◌, inl, inr, add-zero, suc-mul, arith}
 use Rattle.bounds.specs.Adding.{sum_same}
 use Rattle.bounds.specs.Demand.{above, core, cost, execution, period, releases, sensitivity, stress, total_sensitivity, total_stress}
 use Rattle.bounds.specs.Gathering.{Gathers, rival_form}

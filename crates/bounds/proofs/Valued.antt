@@ -1,12 +1,11 @@
 -- The right sides that are computed from loads. Execution never falls as the window grows, and counts every load once
 -- in any window, so no solution lies below it; and the deadline test's sum goes core by core.
-use Rattle.std.proofs.Common.{◌≡◌, ℕ, ◌+◌, ◌*◌, ◌<◌, ◌≤◌, min, cond, eqb, List, [], ◌∷◌, get_or, sum_by, sym, refl, ap, ◌∙◌, mul-le-mul_right, arith}
+use Rattle.std.proofs.Common.{◌≡◌, ℕ, ◌+◌, ◌<◌, ◌≤◌, min, cond, eqb, List, [], ◌∷◌, get_or, sum_by, refl, ap, ◌∙◌, mul-le-mul_right, arith}
 use Rattle.bounds.specs.Adding.{releases_rise, sum_more, sum_none, sum_same}
-use Rattle.bounds.specs.Loads.{Total, cost_at, held, no_sums, of_core, weight_at}
+use Rattle.bounds.specs.Loads.{Total, cost_at, held, no_sums, of_core}
 use Rattle.bounds.specs.Questions.{SumsOf, inflicted, lesser_side, own_cost, own_shared}
 use Rattle.bounds.specs.Rules.{contention}
 use Rattle.bounds.specs.Sums.{sum_to}
-use Rattle.bounds.specs.declared.load.Load.{Load}
 use Rattle.bounds.specs.declared.load.Loads.{Loads}
 use Rattle.bounds.specs.declared.load.Sums.{Sums}
 use Rattle.bounds.specs.declared.question.Own.{Own}

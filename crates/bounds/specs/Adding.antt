@@ -1,5 +1,5 @@
 -- Laws of sums and of quotients rounded up. Each sum's law is an induction over how many terms it has.
-use Rattle.std.specs.Prelude.{◌≡◌, ℕ, zero, suc, ◌+◌, ◌-◌, ◌*◌, ◌/◌, ◌<◌, ◌≤◌, Bool, true, false, cond, refl}
+use Rattle.std.specs.Prelude.{◌≡◌, ℕ, zero, suc, ◌+◌, ◌-◌, ◌*◌, ◌<◌, ◌≤◌, Bool, true, false, cond, refl}
 use Rattle.bounds.specs.Demand.{releases}
 use Rattle.bounds.specs.Sums.{sum_over, sum_to}
 use Rattle.std.proofs.lemmas.Bool.{cases_eq, false≢true}

@@ -1,10 +1,10 @@
 -- Rules agree on lists that are alike: on the own core that is enough for what is executed and suffered, and on every
 -- core for what is inflicted. They agree on sets with the same members above.
-use Rattle.std.specs.Prelude.{◌≡◌, ℕ, ◌+◌, ◌*◌, min, Bool, true, false, cond, not, ◌&&◌, List, ◌==◌, ◌≢◌, slice_index, refl}
-use Rattle.bounds.specs.Adding.{over_same, sum_same}
-use Rattle.bounds.specs.Demand.{above, core, cost, deadline, execution, period, releases, sensitivity, stress, total_sensitivity, total_stress}
-use Rattle.bounds.specs.Rules.{Rule, composable_rule, contention, deadline_rule, lesser_rule}
-use Rattle.bounds.specs.Sums.{sum_over, sum_to}
+use Rattle.std.specs.Prelude.{◌≡◌, ℕ, ◌+◌, ◌*◌, min, Bool, true, false, not, ◌&&◌, List, ◌==◌, ◌≢◌, slice_index, refl}
+use Rattle.bounds.specs.Adding.{over_same}
+use Rattle.bounds.specs.Demand.{above, core, cost, execution, period, releases, sensitivity, stress, total_sensitivity, total_stress}
+use Rattle.bounds.specs.Rules.{composable_rule, contention, lesser_rule}
+use Rattle.bounds.specs.Sums.{sum_over}
 use Rattle.std.proofs.lemmas.Bool.{and_parts, cases_Bool, cases_eq, eq-eqb}
 use Rattle.table.proofs.Places.{on_core_is}
 use Rattle.table.proofs.Plains.{Alike}

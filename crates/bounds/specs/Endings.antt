@@ -1,5 +1,5 @@
 -- In which round the response test ends, and why.
-use Rattle.std.specs.Prelude.{◌≡◌, ℕ, zero, suc, ◌+◌, ◌<◌, ◌≤◌, List, Some, None, Ok, Err, Option, Result, MatchResult, ◌≢◌}
+use Rattle.std.specs.Prelude.{◌≡◌, ℕ, zero, suc, ◌+◌, ◌<◌, List, Some, None, Ok, Err, Option, Result, MatchResult, ◌≢◌}
 use Rattle.bounds.specs.Rounds.{Answer, bound_after, round_after, start}
 use Rattle.table.specs.declared.board.Board.{Board}
 use Rattle.table.specs.declared.row.Row.{Row}

@@ -1,5 +1,5 @@
 -- With fewer tasks above, each sum has fewer terms, so no rule grows; what others inflict does not depend on the set.
-use Rattle.std.specs.Prelude.{◌≡◌, ℕ, ◌+◌, ◌*◌, ◌≤◌, min, true, not, ◌&&◌, List, ◌==◌}
+use Rattle.std.specs.Prelude.{ℕ, ◌*◌, ◌≤◌, min, not, ◌&&◌, List, ◌==◌}
 use Rattle.bounds.specs.Adding.{over_fewer}
 use Rattle.bounds.specs.Rises.{contention_le, min_le_min}
 use Rattle.bounds.specs.Demand.{above, core, cost, execution, period, releases, sensitivity, total_sensitivity, total_stress}

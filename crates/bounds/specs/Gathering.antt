@@ -1,11 +1,9 @@
 -- Which tasks a list of loads stands for: whatever is summed over the loads is summed over those tasks.
-use Rattle.std.specs.Prelude.{◌≡◌, ℕ, Bool, true, false, cond, List, get_or, sum_by, Option, MatchOption}
+use Rattle.std.specs.Prelude.{◌≡◌, ℕ, Bool, true, false, cond, List, sum_by, Option, MatchOption}
 use Rattle.bounds.specs.Loads.{held}
-use Rattle.bounds.specs.Sums.{sum_over}
 use Rattle.bounds.specs.declared.load.Load.{Load}
 use Rattle.bounds.specs.declared.load.Loads.{Loads}
 use Rattle.bounds.specs.Sums.{sum_to}
-use Rattle.table.specs.Rows.{row_at}
 use Rattle.table.specs.Sets.{Set}
 use Rattle.table.specs.declared.row.Row.{Row}
 

@@ -12,7 +12,7 @@ use Rattle.std.proofs.lemmas.Option.{MatchOption-at_some}
 use Rattle.std.proofs.lemmas.Bool.{both_ways, cases_Bool, cond-false, cond-true}
 use Rattle.table.proofs.Places.{off_board, on_core_from, on_core_task}
 use Rattle.table.proofs.Plains.{Alike, alike_no_task, own_alike, plain_alike}
-use Rattle.table.specs.Rows.{is_task, on_board, on_core, own_rows, plain, row_at}
+use Rattle.table.specs.Rows.{is_task, on_board, on_core, own_rows, plain}
 use Rattle.table.specs.Sets.{Set, Within}
 use Rattle.table.specs.Tests.{Laws, NoLater}
 use Rattle.table.specs.declared.board.Board.{Board}

@@ -21,6 +21,8 @@ impl Test for Composable {
 
     const WIDE: bool = false;
 
+    ghost WIDE = { false };
+
     ghost wide = { false };
 
     ghost meaning = { λ _. composable_bound };
@@ -31,7 +33,7 @@ impl Test for Composable {
 
     fn is_wide(&self) -> bool
         ensures answer { result ≡ false }
-        ensures* states { do ⌜ result ≡ (← (⟦<Composable as Test>::WIDE⟧).exit) ⌝ }
+        ensures states { result ≡ ⟦<Composable as Test>⟧.WIDE }
     {
         Self::WIDE
     }

@@ -22,6 +22,8 @@ impl Test for Deadline {
 
     const WIDE: bool = true;
 
+    ghost WIDE = { true };
+
     ghost wide = { true };
 
     ghost meaning = { λ _. deadline_bound };
@@ -32,7 +34,7 @@ impl Test for Deadline {
 
     fn is_wide(&self) -> bool
         ensures answer { result ≡ true }
-        ensures* states { do ⌜ result ≡ (← (⟦<Deadline as Test>::WIDE⟧).exit) ⌝ }
+        ensures states { result ≡ ⟦<Deadline as Test>⟧.WIDE }
     {
         Self::WIDE
     }

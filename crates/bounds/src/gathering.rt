@@ -24,7 +24,7 @@ pub(crate) trait Pick {
 }
 
 pub(crate) fn gather<P: Pick>(picker: &P) -> Loads
-    ensures { Gathers (picks picker.now) (forms picker.now) 64 result }
+    ensures { Gathers (P.picks picker.now) (P.forms picker.now) 64 result }
 {
     let mut loads = Loads::new();
     for j in 0..NUMBERS {

@@ -1,4 +1,5 @@
 // The two tests that bound a task's response time: the composable test and the deadline test.
+#![tactic(auto)]
 
 // The composable test: contention is all that the own core can suffer.
 pub mod composable;

@@ -1,4 +1,6 @@
 // The figures that were worked out by hand for calls on a sheet.
+#![tactic(auto)]
+
 ghost use Rattle.callfigures.specs.Figures.{all_hold, figures};
 ghost use Rattle.std.specs.Prelude.{◌≡◌, true};
 

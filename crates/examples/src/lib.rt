@@ -1,4 +1,5 @@
 // Examples that run: one for each rule of the table, of the tests and of the file.
+#![tactic(auto)]
 
 #[cfg(test)]
 mod bounded;

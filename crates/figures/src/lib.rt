@@ -1,4 +1,6 @@
 // The worked example, and the figures that were worked out by hand.
+#![tactic(auto)]
+
 ghost use Rattle.figures.specs.Figures.{all_hold, figures};
 ghost use Rattle.figures.specs.Tables.{task_row, two_cores, worked_rows};
 ghost use Rattle.std.specs.Prelude.{◌≡◌, true};

@@ -1,4 +1,6 @@
 // The least solution of a recurrence `rule(t) = t`: one text for every rule that never falls.
+#![tactic(auto)]
+
 ghost use Rattle.std.specs.Prelude.{◌≡◌, ℕ, ◌≤◌, min};
 ghost use Rattle.least.specs.Least.{AnswersLeast, NoSolutionBelow, Rising, solution};
 
@@ -22,8 +24,8 @@ pub trait Rule {
 // to what the rule makes of it: whatever lies between cannot be a solution of a rule that never
 // falls. A rule that does fall ends it, so it ends on every input.
 pub fn climb<R: Rule>(rule: &R, limit: u32) -> Option<u32>
-    ensures answer { Rising (value rule.now) → result ≡ solution (value rule.now) (min limit 10000000) }
-    ensures least { Rising (value rule.now) → AnswersLeast (value rule.now) (min limit 10000000) result }
+    ensures answer { Rising (R.value rule.now) → result ≡ solution (R.value rule.now) (min limit 10000000) }
+    ensures least { Rising (R.value rule.now) → AnswersLeast (R.value rule.now) (min limit 10000000) result }
 {
     let limit = limit.min(LONGEST);
     let mut t = rule.start().max(1);

@@ -1,6 +1,6 @@
 -- The steps of the loop that fills places: what is placed and tried so far, put before what the rest comes to, is the
 -- whole search.
-use Rattle.std.proofs.Common.{◌≡◌, ℕ, suc, ◌+◌, ◌-◌, ◌<◌, ◌≤◌, List, [], ◌∷◌, ◌++◌, Some, None, Option, sym, refl, ap, ◌∙◌, arith}
+use Rattle.std.proofs.Common.{◌≡◌, ℕ, suc, ◌+◌, ◌-◌, ◌<◌, ◌≤◌, List, [], ◌∷◌, ◌++◌, Some, None, sym, refl, ap, ◌∙◌, arith}
 use Rattle.ordering.specs.Orders.{Answers}
 use Rattle.ordering.specs.Search.{Outcome, after, fill, first_taker, ordered, place, refused, search_for, size, tried}
 use Rattle.std.proofs.lemmas.List.{append_assoc, append-nil}

@@ -1,5 +1,5 @@
 -- The search decides for every test that keeps the laws; only "fewer above keeps a bound" is used.
-use Rattle.std.proofs.Common.{◌≡◌, ℕ, ◌<◌, Bool, true, List, is_some, Some, None, Option, sym, refl, subst}
+use Rattle.std.proofs.Common.{◌≡◌, ℕ, Bool, true, List, is_some, Some, None, Option, sym, refl, subst}
 use Rattle.ordering.proofs.Audsley.{FewerKeeps, MembersBelow, search_decides}
 use Rattle.ordering.proofs.Trials.{search_few}
 use Rattle.ordering.specs.Orders.{Answers}

@@ -1,6 +1,6 @@
 -- Orders as lists: the lowest of an order put away leaves an order of the others, any task may be left out, and a task
 -- put below an order of the others makes an order of all.
-use Rattle.std.proofs.Common.{◌≡◌, ℕ, Bool, true, false, cond, ◌||◌, eqb, ◌⊎◌, List, [], ◌∷◌, sym, refl, ap, ◌∙◌, subst, inl, inr, ⊎_elim}
+use Rattle.std.proofs.Common.{◌≡◌, ℕ, Bool, true, false, cond, ◌||◌, eqb, ◌⊎◌, List, [], ◌∷◌, sym, refl, ◌∙◌, subst, inl, inr, ⊎_elim}
 use Rattle.ordering.specs.Orders.{Distinct, OrderOf, named}
 use Rattle.std.proofs.lemmas.Bool.{both_ways, cases_eq, eq-eqb, eqb-false, eqb-true, ne_eqb, or_cases, or_left, or_right}
 use Rattle.table.proofs.Flags.{without_at, without_other, without_within}

@@ -1,9 +1,9 @@
 -- In a present order the tasks above a task are exactly those ranked above it: later in the list means a smaller rank
 -- number, and whoever is not later has a larger one. So a present order passes exactly when each task has a bound under
 -- its rank.
-use Rattle.std.proofs.Common.{◌≡◌, ℕ, ◌<◌, ◌≤◌, true, false, ◌&&◌, eqb, ltb, List, [], ◌∷◌, is_some, sym, refl, ap, ◌∙◌, ⊎_elim, arith}
+use Rattle.std.proofs.Common.{◌≡◌, ℕ, ◌<◌, true, false, ◌&&◌, eqb, ltb, List, [], ◌∷◌, is_some, sym, refl, ap, ◌∙◌, ⊎_elim, arith}
 use Rattle.ordering.proofs.Listing.{named_either, named_head, named_later}
-use Rattle.ordering.specs.Orders.{Answers, Distinct, OrderOf, Passes, named}
+use Rattle.ordering.specs.Orders.{Answers, Passes, named}
 use Rattle.ordering.specs.Present.{Bounded, Falls, PresentOrder}
 use Rattle.std.proofs.lemmas.Bool.{and_from, and_left, and_right, both_ways, cases_Bool, cases_eq, le-ltb, lt-ltb, ne_eqb, or_from}
 use Rattle.table.proofs.Places.{on_core_is}

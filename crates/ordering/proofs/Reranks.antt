@@ -3,7 +3,7 @@
 use Rattle.std.proofs.Common.{◌≡◌, ℕ, ◌-◌, ◌<◌, ◌≤◌, Bool, true, false, ◌&&◌, eqb, ltb, List, [], ◌∷◌, map, length, drop, sym, refl, ap, ◌∙◌, subst, ⊎_elim, arith}
 use Rattle.ordering.proofs.Listing.{named_either, named_head, named_later}
 use Rattle.ordering.proofs.Presents.{present_bounded}
-use Rattle.ordering.specs.Orders.{Answers, Distinct, FirstOrder, Impossible, OrderOf, named}
+use Rattle.ordering.specs.Orders.{Answers, Distinct, FirstOrder, OrderOf, named}
 use Rattle.ordering.specs.Present.{Falls, PresentOrder}
 use Rattle.ordering.specs.Search.{DecidesOrder, Outcome, ordered, refused}
 use Rattle.ordering.specs.Writing.{OrdersCore, Ranges, RanksFirst, Writes, after_search, ranked_by, reranked, with_rank, written}

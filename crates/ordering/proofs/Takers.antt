@@ -1,5 +1,5 @@
 -- How many tasks are tried at a place: no more than are left.
-use Rattle.std.proofs.Common.{◌≡◌, ℕ, ◌+◌, ◌<◌, ◌≤◌, Some, None, Option, arith}
+use Rattle.std.proofs.Common.{ℕ, ◌+◌, ◌≤◌, Some, None, Option, arith}
 use Rattle.ordering.specs.Orders.{Answers}
 use Rattle.ordering.specs.Search.{can_take, first_taker, size, tried}
 use Rattle.table.proofs.Firsts.{FirstBelow, first_is}

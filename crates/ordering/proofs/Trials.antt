@@ -1,5 +1,5 @@
 -- How many tasks are tried: at a place no more than are left, so n, then n - 1, and so on.
-use Rattle.std.proofs.Common.{◌≡◌, ℕ, zero, suc, ◌+◌, ◌*◌, ◌/◌, ◌≤◌, List, [], ◌∷◌, is_some, Some, None, Option, refl, arith}
+use Rattle.std.proofs.Common.{◌≡◌, ℕ, zero, suc, ◌+◌, ◌*◌, ◌≤◌, List, [], ◌∷◌, is_some, Some, None, Option, refl, arith}
 use Rattle.ordering.proofs.Takers.{Took, took, tried_le}
 use Rattle.ordering.specs.Orders.{Answers}
 use Rattle.ordering.specs.Search.{FewTrials, Outcome, after, fill, first_taker, ordered, place, refused, search_for, size, trials_of, tried}

@@ -1,4 +1,5 @@
 // Orders of a core's tasks: found, judged and written, by one text for every test.
+#![tactic(auto)]
 
 // An order, and what a search answers.
 pub mod order;

@@ -1,4 +1,5 @@
 // Whole runs of calls on a sheet, and what holds after any list of them.
+#![tactic(auto)]
 
 // Calls as values, and their answers.
 pub mod call;

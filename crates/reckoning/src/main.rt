@@ -1,5 +1,7 @@
 // Random tables, each question answered twice: by the analyser, and by a naive reckoning that shares
 // only its boards, rows and sets. It prints how many questions there were and how many differed.
+#![tactic(auto)]
+
 use bounds::composable::Composable;
 use bounds::deadline::Deadline;
 use random::Random;

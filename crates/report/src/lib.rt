@@ -1,4 +1,5 @@
 // The report of a table, and the whole program as a function from a file to a text.
+#![tactic(auto)]
 
 // Text that is put together in memory of its own.
 pub mod text;

@@ -1,5 +1,7 @@
 // Reads a table file from standard input and writes its report, or the one line of a refusal, to
 // standard output.
+#![tactic(auto)]
+
 use report::analysing::analyse;
 use std::io;
 use std::io::{Read, Write};

@@ -1,5 +1,6 @@
 // The sheet: a task table under edit. Its rows lie in a list that the caller lends, and each core
 // of the board is marked standing or loose.
+#![tactic(auto)]
 
 // What a person enters, and what a record of a file asks to enter.
 pub mod entry;

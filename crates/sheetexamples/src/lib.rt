@@ -1,4 +1,5 @@
 // Examples that run: one for each rule of the sheet and of the report.
+#![tactic(auto)]
 
 #[cfg(test)]
 mod edited;

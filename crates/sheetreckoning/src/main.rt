@@ -1,6 +1,8 @@
 // Random tables and random sheets, each question answered twice: by the analyser, and by a naive
 // reckoning that shares only its boards and rows. It prints how many questions there were and how
 // many differed.
+#![tactic(auto)]
+
 use bounds::composable::Composable;
 use bounds::deadline::Deadline;
 use counts::Counts;

@@ -1,7 +1,7 @@
 -- What figures in limits keep: each test of `in_limits` as the fact that it tests.
-use Rattle.std.proofs.Common.{◌≡◌, ℕ, zero, suc, ◌<◌, ◌≤◌, true, ◌&&◌, leb, List, get_or, arith}
+use Rattle.std.proofs.Common.{◌≡◌, ℕ, zero, suc, ◌<◌, ◌≤◌, true, List, get_or, arith}
 use Rattle.std.proofs.lemmas.Bool.{and_parts, leb-true}
-use Rattle.table.specs.Limits.{all_small, in_limits, small}
+use Rattle.table.specs.Limits.{all_small, in_limits}
 use Rattle.table.specs.declared.row.Figures.{Figures}
 
 -- what holds of 0, 1, 2 and 3 holds of each number below 4

@@ -1,8 +1,8 @@
 -- What is known of a number that has a task, and of one that has none. Everything follows from the two tests by which
 -- `is_task` is defined: the number is below 64, and its row is used and in limits; a row past the end is not used.
-use Rattle.std.proofs.Common.{◌≡◌, ℕ, ◌<◌, ◌≤◌, true, false, ◌&&◌, eqb, ltb, List, length, sym, refl, ap, ◌∙◌, ⊎_elim, arith}
+use Rattle.std.proofs.Common.{◌≡◌, ℕ, ◌<◌, ◌≤◌, true, false, eqb, ltb, List, length, ap, ◌∙◌, arith}
 use Rattle.std.proofs.lemmas.List.{get_or_past}
-use Rattle.std.proofs.lemmas.Bool.{and_from, and_left, and_parts, and_right, both_ways, cases_lt, eq-eqb, eqb-true, le-ltb, lt-ltb, ltb-true, ne_eqb}
+use Rattle.std.proofs.lemmas.Bool.{and_from, and_left, and_parts, and_right, eq-eqb, eqb-true, le-ltb, lt-ltb, ltb-true, ne_eqb}
 use Rattle.table.specs.Limits.{in_limits}
 use Rattle.table.specs.Ranks.{higher_ranked}
 use Rattle.table.specs.Rows.{holds_task, is_task, on_board, on_core, past, row_at}

@@ -1,11 +1,11 @@
 -- Row lists that are alike on a core: the same numbers have tasks there, with the same figures. A list is alike on every
 -- core with its tasks alone, and on one core with the tasks of that core alone: a task's row stands there without its
 -- rank, and every other place is empty. So whatever reads only tasks and figures cannot tell the lists apart.
-use Rattle.std.proofs.Common.{◌≡◌, ℕ, ◌<◌, ◌≤◌, Bool, true, false, cond, ◌&&◌, ltb, List, map, sym, refl, ap, ◌∙◌, subst, inl, inr, arith}
+use Rattle.std.proofs.Common.{◌≡◌, ℕ, ◌<◌, ◌≤◌, Bool, true, false, cond, ◌&&◌, ltb, List, map, sym, refl, ap, ◌∙◌, inl, inr, arith}
 use Rattle.std.proofs.lemmas.List.FromFn.{get_or-map-range_with_len}
 use Rattle.std.proofs.lemmas.Bool.{and_parts, both_ways, cases_Bool, cases_lt, cond-false, cond-true}
 use Rattle.std.specs.List.{range_with_len}
-use Rattle.table.proofs.Places.{no_task_from, no_task_past, off_board, off_core, on_board_core, on_board_from, on_board_task, on_core_from, on_core_is, on_core_task, other_core, task_from, task_holds}
+use Rattle.table.proofs.Places.{no_task_from, no_task_past, off_board, off_core, on_core_from, on_core_is, on_core_task, other_core, task_from, task_holds}
 use Rattle.table.specs.Limits.{in_limits}
 use Rattle.table.specs.Rows.{empty_row, holds_task, is_task, on_board, on_core, own_rows, past, plain, plain_row, row_at}
 use Rattle.table.specs.declared.board.Board.{Board}

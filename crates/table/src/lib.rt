@@ -1,4 +1,5 @@
 // The task table: boards, rows, tasks, sets of task numbers, and what a test of a task is.
+#![tactic(auto)]
 
 // The refusals, each with its number.
 pub mod refusal;

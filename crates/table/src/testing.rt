@@ -15,6 +15,9 @@ pub trait Test {
     // Whether rows of other cores can make a difference: a wide test. If not, it is own-core.
     const WIDE: bool;
 
+    // The constant, as clauses name it.
+    ghost WIDE: { Bool };
+
     // `WIDE`, as the laws read it.
     ghost wide: { Bool };
 

@@ -1,5 +1,5 @@
 -- Parts of one width laid one after another.
-use Rattle.std.proofs.Common.{◌≡◌, ℕ, zero, suc, ◌+◌, ◌-◌, ◌*◌, ◌<◌, ◌≤◌, List, [], ◌∷◌, ◌++◌, length, get_or, take, drop, sym, refl, ap, ◌∙◌, subst, ⊎_elim, mul-zero, mul-one, mul-add, add-one, arith, take-add}
+use Rattle.std.proofs.Common.{◌≡◌, ℕ, zero, suc, ◌+◌, ◌*◌, ◌<◌, ◌≤◌, List, [], ◌∷◌, ◌++◌, length, get_or, take, drop, sym, refl, ap, ◌∙◌, subst, ⊎_elim, mul-zero, mul-one, mul-add, add-one, arith, take-add}
 use Rattle.std.proofs.lemmas.List.{append_assoc, drop_at, length-append, take_at, take_more}
 use Rattle.std.proofs.lemmas.Bool.{cases_lt}
 use Rattle.tablefile.specs.Parts.{laid}

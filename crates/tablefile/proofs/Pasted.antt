@@ -1,5 +1,5 @@
 -- Bytes written one after another into a buffer.
-use Rattle.std.proofs.Common.{◌≡◌, ℕ, ◌+◌, ◌-◌, ◌*◌, ◌≤◌, List, [], ◌++◌, length, take, drop, sym, refl, ap, ◌∙◌, mul-one, mul-add, arith}
+use Rattle.std.proofs.Common.{◌≡◌, ℕ, ◌+◌, ◌*◌, ◌≤◌, List, [], ◌++◌, length, take, drop, sym, refl, ap, ◌∙◌, mul-one, mul-add, arith}
 use Rattle.std.proofs.lemmas.List.{append_assoc, drop_at, drop-drop, length-append, length-drop, length-replicate, length-take, length-take-le, take-append-drop, take_at}
 use Rattle.tablefile.proofs.Laid.{laid_more, laid_none, length_laid}
 use Rattle.tablefile.specs.Parts.{laid, pasted, zeros}

@@ -1,4 +1,5 @@
 // The task table as a file of blocks: read, checked and written.
+#![tactic(auto)]
 
 // What the bytes of a record spell.
 pub mod records;

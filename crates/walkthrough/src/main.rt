@@ -1,6 +1,8 @@
 // Reads a table file, orders every core by the deadline test, and tells step by step what it found:
 // the board, what each call answered, each task with its figures and bounds, all response times
 // together, the table as a file with the ranks that it has now, and a report.
+#![tactic(auto)]
+
 mod calls;
 mod filed;
 mod protocol;

@@ -1,7 +1,7 @@
 use Rattle.std.proofs.Common.{◌≡◌, ◌+◌, ◌≤◌, sym, subst, arith}
 use Rattle.bounds.proofs.Gathered.{gathers_no, gathers_none, gathers_yes}
 use Rattle.bounds.proofs.gathering.gather.Goals as goal
-use Rattle.bounds.proofs.gathering.gather.Goals.{in-Some, in-default}
+use Rattle.bounds.proofs.gathering.gather.Goals.{in-Some, in_default}
 use Rattle.bounds.specs.Gathering.{Gathers}
 
 pub loop-j-init : goal.loop-j-init
@@ -17,9 +17,9 @@ loop-j-preserved g c =
           let picked = w.in-Some.ensures in
           subst (λ x. (x.n ≤ j + 1) × Gathers picks forms (j + 1) x) (sym w.loads-is)
           (omega (arith, w.push.ensures.count, c.loop-j.invariant.0), gathers_yes picks forms j c.loop-j.loads w.push.new.self w.in-Some.load picked.0 picked.1 w.push.ensures c.loop-j.invariant.1)
-      | in-default w ↦
+      | in_default w ↦
           subst (λ x. (x.n ≤ j + 1) × Gathers picks forms (j + 1) x) (sym w.loads-is)
-          (omega (arith, c.loop-j.invariant.0), gathers_no picks forms j c.loop-j.loads w.in-default.ensures c.loop-j.invariant.1)
+          (omega (arith, c.loop-j.invariant.0), gathers_no picks forms j c.loop-j.loads w.in_default.ensures c.loop-j.invariant.1)
     ]
 
 pub returns : goal.returns

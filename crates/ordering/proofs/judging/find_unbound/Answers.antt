@@ -10,8 +10,8 @@ pub returns : goal.returns
 returns g c =
     let rows = c.args.rows.now in
     let ask : Answers = g.T.Test.meaning c.args.test.now c.args.board.now rows in
-    let answer : c.highest-failing.result ≡ unbound ask rows (on_core rows c.args.core) =
-    c.highest-failing.ensures
-    ∙ ap (λ a. unbound a rows (members c.of-core-tasks.result)) c.prepare-prepared.ensures.answer
-    ∙ ap (unbound ask rows) c.of-core-tasks.ensures.answer in
+    let answer : c.highest_failing.result ≡ unbound ask rows (on_core rows c.args.core) =
+    c.highest_failing.ensures
+    ∙ ap (λ a. unbound a rows (members c.of_core-tasks.result)) c.prepare-prepared.ensures.answer
+    ∙ ap (unbound ask rows) c.of_core-tasks.ensures.answer in
     record { answer = answer; judges = judged ask rows c.args.core _ answer }

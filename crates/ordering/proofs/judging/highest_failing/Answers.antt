@@ -1,6 +1,6 @@
 use Rattle.ordering.proofs.Failing.{unbound_no, unbound_none, unbound_yes}
 use Rattle.ordering.proofs.judging.highest_failing.Goals as goal
-use Rattle.ordering.proofs.judging.highest_failing.Goals.{else-is-failing, then-is-failing}
+use Rattle.ordering.proofs.judging.highest_failing.Goals.{else-is_failing, then-is_failing}
 use Rattle.ordering.specs.Judging.{unbound_below}
 use Rattle.ordering.specs.Orders.{Answers}
 use Rattle.table.specs.Sets.{Set, members}
@@ -14,9 +14,9 @@ loop-i-preserved g c =
     let ask : Answers = g.T.Test.answers c.args.test.now c.args.prepared.now in
     let rows = c.args.rows.now in
     let tasks : Set = members c.args.tasks.now in
-    elim c.if-is-failing.branch [
-      | then-is-failing w ↦ w.found-is ∙ w.higher-one-found.ensures ∙ unbound_yes ask rows tasks c.loop-i.i c.loop-i.found c.loop-i.invariant (sym c.is-failing.ensures ∙ w.if-is-failing.true)
-      | else-is-failing w ↦ w.found-is ∙ unbound_no ask rows tasks c.loop-i.i c.loop-i.found c.loop-i.invariant (sym c.is-failing.ensures ∙ w.if-is-failing.false)
+    elim c.if-is_failing.branch [
+      | then-is_failing w ↦ w.found-is ∙ w.higher_one-found.ensures ∙ unbound_yes ask rows tasks c.loop-i.i c.loop-i.found c.loop-i.invariant (sym c.is_failing.ensures ∙ w.if-is_failing.true)
+      | else-is_failing w ↦ w.found-is ∙ unbound_no ask rows tasks c.loop-i.i c.loop-i.found c.loop-i.invariant (sym c.is_failing.ensures ∙ w.if-is_failing.false)
     ]
 
 pub returns : goal.returns

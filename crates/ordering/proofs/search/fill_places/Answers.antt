@@ -1,9 +1,9 @@
-use Rattle.std.proofs.Common.{◌≡◌, ℕ, ◌+◌, ◌-◌, ◌<◌, ◌≤◌, List, [], ◌∷◌, ◌++◌, length, take, Some, None, Option, sym, refl, ap, ◌∙◌, subst, arith}
+use Rattle.std.proofs.Common.{◌≡◌, ℕ, ◌+◌, ◌-◌, ◌<◌, ◌≤◌, [], ◌∷◌, ◌++◌, take, Some, None, Option, sym, refl, ap, ◌∙◌, subst, arith}
 use Rattle.ordering.proofs.Filling.{fill_done, fill_next, fill_start, fill_stuck}
 use Rattle.ordering.proofs.Takers.{Took, took, tried_le}
 use Rattle.ordering.proofs.search.fill_places.Goals as goal
 use Rattle.ordering.specs.Orders.{Answers}
-use Rattle.ordering.specs.Search.{after, fill, first_taker, ordered, refused, size, tried}
+use Rattle.ordering.specs.Search.{after, fill, first_taker, ordered, refused, tried}
 use Rattle.std.proofs.lemmas.List.{length-set, take_more_set}
 use Rattle.table.proofs.Flags.{count_le}
 use Rattle.table.specs.Sets.{Set, members, without}
@@ -21,17 +21,17 @@ loop-placed-init g c =
     let U : Set = members c.args.tasks in
     (fill_start ask U U c.size-count.result refl c.size-count.ensures.answer, omega arith, omega (arith, c.size-count.ensures.answer, count_le U 64), refl)
 
-pub overflow-add-trials : goal.overflow-add-trials
-overflow-add-trials g c =
+pub overflow_add-trials : goal.overflow_add-trials
+overflow_add-trials g c =
     let ask : Answers = g.T.Test.answers c.args.test.now c.args.prepared.now in
-    let taker = c.find-taker-taker in
+    let taker = c.find_taker-taker in
     omega (arith, c.loop-placed.invariant.1, c.loop-placed.invariant.2, c.loop-placed-test.true, taker.ensures.trials, few ask (members c.loop-placed.left) taker.result.number taker.ensures.number)
 
 pub returns-in-None : goal.returns-in-None
 returns-in-None g c =
     let ask : Answers = g.T.Test.answers c.args.test.now c.args.prepared.now in
     let U : Set = members c.loop-placed.left in
-    let taker = c.find-taker-taker in
+    let taker = c.find_taker-taker in
     let none : first_taker ask U ≡ None = sym taker.ensures.number ∙ c.in-None.is in
     let tries : taker.result.trials ≡ tried U None = taker.ensures.trials ∙ ap (tried U) c.in-None.is in
     ap (λ n. refused (c.loop-placed.trials + n) (c.size-count.result - c.loop-placed.placed)) tries
@@ -46,7 +46,7 @@ loop-placed-preserved g c =
     let n = c.size-count.result in
     let p = c.loop-placed.placed in
     let numbers = c.loop-placed.numbers in
-    let taker = c.find-taker-taker in
+    let taker = c.find_taker-taker in
     let found : first_taker ask U ≡ Some k = sym taker.ensures.number ∙ c.in-Some.is in
     let tries : taker.result.trials ≡ tried U (Some k) = taker.ensures.trials ∙ ap (tried U) c.in-Some.is in
     let pushed = take_more_set numbers p k (omega (arith, c.loop-placed.invariant.3, c.loop-placed.invariant.2, c.loop-placed-test.true)) in (
@@ -70,7 +70,7 @@ returns g c =
     ∙ sym (fill_done ask (members c.loop-placed.left) c.size-count.result p (take p numbers) c.loop-placed.trials c.loop-placed-test.false)
     ∙ c.loop-placed.invariant.0
 
-pub overflow-cast-numbers : goal.overflow-cast-numbers
-overflow-cast-numbers g c =
+pub overflow_cast-numbers : goal.overflow_cast-numbers
+overflow_cast-numbers g c =
     let ask : Answers = g.T.Test.answers c.args.test.now c.args.prepared.now in
-    omega (arith, below ask (members c.loop-placed.left) c.in-Some.k (sym c.find-taker-taker.ensures.number ∙ c.in-Some.is))
+    omega (arith, below ask (members c.loop-placed.left) c.in-Some.k (sym c.find_taker-taker.ensures.number ∙ c.in-Some.is))

@@ -5,10 +5,10 @@ use Rattle.ordering.specs.Told.{numbers_of}
 
 pub returns : goal.returns
 returns g c =
-    let found = c.in-ok-found.ensures in
+    let found = c.in_ok-found.ensures in
     record {
       answer = found.answer;
       trials = found.trials;
-      rows = c.write-ranks.ensures.rows;
-      orders = orders _ _ (g.met.T.Test.laws c.args.test.now) c.args.board.now c.args.rows.now c.args.core (ordered (numbers_of c.in-ok-found.found.order) c.in-ok-found.found.trials) c.write-ranks.new.rows found.decides c.write-ranks.ensures.rows;
+      rows = c.write_ranks.ensures.rows;
+      orders = orders _ _ (g.met.T.Test.laws c.args.test.now) c.args.board.now c.args.rows.now c.args.core (ordered (numbers_of c.in_ok-found.found.order) c.in_ok-found.found.trials) c.write_ranks.new.rows found.decides c.write_ranks.ensures.rows;
     }

@@ -2,7 +2,6 @@ use Rattle.std.proofs.Common.{◌≡◌, ℕ, ◌+◌, ◌-◌, ◌<◌, ◌≤�
 use Rattle.ordering.proofs.Reranks.{written_writes}
 use Rattle.ordering.proofs.writing.write_ranks.Goals as goal
 use Rattle.ordering.proofs.writing.write_ranks.Goals.{else-i-rows, then-i-rows}
-use Rattle.ordering.specs.Told.{numbers_of}
 use Rattle.ordering.specs.Writing.{ranked_by, reranked, with_rank, written}
 use Rattle.std.proofs.lemmas.List.{at_drop_all, at_drop_more, get_or-take, length-take, set_past}
 use Rattle.table.specs.Rows.{row_at}

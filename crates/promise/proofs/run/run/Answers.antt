@@ -28,13 +28,13 @@ returns g c =
     record {
       promise = record {
         room = omega arith;
-        answers_are = c.run-all.ensures.answers;
-        rows_are = c.run-all.ensures.rows;
-        marks_are = c.run-all.ensures.marks;
-        rows_long = ap length c.run-all.ensures.rows ∙ formed.long;
-        rows_past = ap (drop 64) c.run-all.ensures.rows ∙ formed.rest;
+        answers_are = c.run_all.ensures.answers;
+        rows_are = c.run_all.ensures.rows;
+        marks_are = c.run_all.ensures.marks;
+        rows_long = ap length c.run_all.ensures.rows ∙ formed.long;
+        rows_past = ap (drop 64) c.run_all.ensures.rows ∙ formed.rest;
         always = λ p. sheet_holds m w laws board rows (take p calls);
-        at_end = by_parts m w board end c.run-all.new.rows c.run-all.result formed.same c.run-all.ensures.rows c.run-all.ensures.marks (sheet_holds m w laws board rows calls);
+        at_end = by_parts m w board end c.run_all.new.rows c.run_all.result formed.same c.run_all.ensures.rows c.run_all.ensures.marks (sheet_holds m w laws board rows calls);
         marked_exactly = λ p core l. told_by_events w core m board rows (take p calls);
       };
     }

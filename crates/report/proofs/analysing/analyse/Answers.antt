@@ -14,11 +14,11 @@ pub returns-in-Ok : goal.returns-in-Ok
 returns-in-Ok c =
     let bytes = c.args.bytes.now in
     let made = c.in-Ok.ensures.answer in
-    let passes = c.in-default.ensures.answer in
+    let passes = c.in_default.ensures.answer in
     record {
       prints = record {
         bad_length = λ e. never _ _ passes e;
         bad_board = λ _ e. absurd (both_ways _ e made.0);
-        analysed = λ _ board cores resources. c.analyse-for.ensures ∙ ap (λ (b : Board). printed_for b bytes) (same_boards c.in-Ok.board board (made.1 ∙ sym cores) (made.2 ∙ sym resources));
+        analysed = λ _ board cores resources. c.analyse_for.ensures ∙ ap (λ (b : Board). printed_for b bytes) (same_boards c.in-Ok.board board (made.1 ∙ sym cores) (made.2 ∙ sym resources));
       };
     }

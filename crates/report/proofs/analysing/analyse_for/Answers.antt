@@ -20,7 +20,7 @@ returns-in-Some c =
     let bytes = c.args.bytes.now in
     let told : get_or c.run.new.answers 0 Unasked ≡ Loaded (load_answer (blank board) bytes) =
     ap (λ (as' : List Answer). get_or as' 0 Unasked) c.in-Ok.ensures.promise.answers_are ∙ load_first c.args.bytes (blank board) board.cores (board.cores + 1 - 0) (omega arith) _ Unasked in
-    c.refused.ensures ∙ sym (prints_stop board bytes c.in-Some.stop (ap stop_in (sym told) ∙ sym c.stop-of.ensures ∙ c.in-Some.is))
+    c.refused.ensures ∙ sym (prints_stop board bytes c.in-Some.stop (ap stop_in (sym told) ∙ sym c.stop_of.ensures ∙ c.in-Some.is))
 
 pub returns-in-None : goal.returns-in-None
 returns-in-None c =
@@ -36,4 +36,4 @@ returns-in-None c =
     ∙ ap (λ (rs : List Row). report_text deadline_bound (record { board = board; rows = rs; marks = c.in-Ok.marks })) rows
     ∙ ap (λ (ms : List Mark). report_text deadline_bound (record { board = board; rows = end.rows; marks = ms })) marks
     ∙ ap (λ (b : Board). report_text deadline_bound (record { board = b; rows = end.rows; marks = end.marks })) (sym (end_board board bytes))
-    ∙ sym (prints_report board bytes (ap stop_in (sym told) ∙ sym c.stop-of.ensures ∙ c.in-None.is))
+    ∙ sym (prints_report board bytes (ap stop_in (sym told) ∙ sym c.stop_of.ensures ∙ c.in-None.is))

@@ -12,11 +12,11 @@ unfolding report_text
 returns g c =
     let board = c.args.board.now in
     let rows = c.args.rows.now in
-    let head = c.push-head.ensures.shows ∙ ap (λ t. t ++ head_line board) c.new-text.ensures.shows in
-    let numbers = c.push-numbers.ensures.shows ∙ ap (λ (ask : Answers). shown c.push-cores.new.text ++ laid 64 (line_of_number ask rows)) c.prepare-prepared.ensures.answer in
+    let head = c.push_head.ensures.shows ∙ ap (λ t. t ++ head_line board) c.new-text.ensures.shows in
+    let numbers = c.push_numbers.ensures.shows ∙ ap (λ (ask : Answers). shown c.push_cores.new.text ++ laid 64 (line_of_number ask rows)) c.prepare-prepared.ensures.answer in
     record {
       answer =
-          then (head_line board) (shown c.push-cores.new.text) (shown c.push-numbers.new.text) (laid board.cores (line_of_core c.args.marks.now)) (laid 64 (line_of_number (g.T.Test.meaning c.args.test.now board rows) rows))
-          (c.push-cores.ensures.shows ∙ ap (λ t. t ++ laid board.cores (line_of_core c.args.marks.now)) head)
+          then (head_line board) (shown c.push_cores.new.text) (shown c.push_numbers.new.text) (laid board.cores (line_of_core c.args.marks.now)) (laid 64 (line_of_number (g.T.Test.meaning c.args.test.now board rows) rows))
+          (c.push_cores.ensures.shows ∙ ap (λ t. t ++ laid board.cores (line_of_core c.args.marks.now)) head)
           numbers;
     }

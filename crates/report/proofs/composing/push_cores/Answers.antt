@@ -9,15 +9,15 @@ use Rattle.tablefile.specs.Parts.{laid}
 pub loop-k-init : goal.loop-k-init
 loop-k-init c = (added_none (shown c.args.text.now) (line_of_core c.args.marks.now), omega arith)
 
-pub push-core-requires : goal.push-core-requires
-push-core-requires c = omega (arith, c.requires, c.loop-k.invariant.1, c.loop-k-test.true, c.args.board.now.few_cores)
+pub push_core-requires : goal.push_core-requires
+push_core-requires c = omega (arith, c.requires, c.loop-k.invariant.1, c.loop-k-test.true, c.args.board.now.few_cores)
 
 pub loop-k-preserved : goal.loop-k-preserved
 loop-k-preserved c =
     let k = c.loop-k.k in (
-      added_more (shown c.args.text.now) (shown c.loop-k.text) (shown c.push-core.new.text) k (line_of_core c.args.marks.now) c.loop-k.invariant.0
-          (c.push-core.ensures.shows ∙ ap (λ up. shown c.loop-k.text ++ core_line k up) c.is-standing.ensures.answer),
-      omega (arith, c.push-core.ensures.near, c.loop-k.invariant.1),
+      added_more (shown c.args.text.now) (shown c.loop-k.text) (shown c.push_core.new.text) k (line_of_core c.args.marks.now) c.loop-k.invariant.0
+          (c.push_core.ensures.shows ∙ ap (λ up. shown c.loop-k.text ++ core_line k up) c.is_standing.ensures.answer),
+      omega (arith, c.push_core.ensures.near, c.loop-k.invariant.1),
     )
 
 pub returns : goal.returns

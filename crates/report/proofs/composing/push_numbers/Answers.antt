@@ -8,14 +8,14 @@ use Rattle.std.proofs.Common.{◌≡◌, ◌++◌, ap, ◌∙◌, arith}
 pub loop-number-init : goal.loop-number-init
 loop-number-init g c = (added_none (shown c.args.text.now) (line_of_number (g.T.Test.answers c.args.test.now c.args.prepared.now) c.args.rows.now), omega arith)
 
-pub push-number-requires : goal.push-number-requires
-push-number-requires g c = omega (arith, c.requires, c.loop-number.invariant.1, c.loop-number-test.true)
+pub push_number-requires : goal.push_number-requires
+push_number-requires g c = omega (arith, c.requires, c.loop-number.invariant.1, c.loop-number-test.true)
 
 pub loop-number-preserved : goal.loop-number-preserved
 loop-number-preserved g c =
     let line = line_of_number (g.T.Test.answers c.args.test.now c.args.prepared.now) c.args.rows.now in (
-      added_more (shown c.args.text.now) (shown c.loop-number.text) (shown c.push-number.new.text) c.loop-number.number line c.loop-number.invariant.0 c.push-number.ensures.shows,
-      omega (arith, c.push-number.ensures.near, c.loop-number.invariant.1),
+      added_more (shown c.args.text.now) (shown c.loop-number.text) (shown c.push_number.new.text) c.loop-number.number line c.loop-number.invariant.0 c.push_number.ensures.shows,
+      omega (arith, c.push_number.ensures.near, c.loop-number.invariant.1),
     )
 
 pub returns : goal.returns

@@ -17,6 +17,6 @@ returns g c =
     ∙ ap (λ (rows : List Row). report_text m (record { board = sheet.board; rows = rows; marks = c.marks.result })) c.rows.ensures.answer
     ∙ ap (λ (marks : List Mark). report_text m (record { board = sheet.board; rows = sheet.rows.now; marks = marks })) c.marks.ensures.answer in
     record {
-      answer = c.copy-to.ensures.answer ∙ ap (λ t. copy_answer t (length c.args.out.now)) text;
-      buffer = c.copy-to.ensures.buffer ∙ ap (λ t. copied t c.args.out.now) text;
+      answer = c.copy_to.ensures.answer ∙ ap (λ t. copy_answer t (length c.args.out.now)) text;
+      buffer = c.copy_to.ensures.buffer ∙ ap (λ t. copied t c.args.out.now) text;
     }

@@ -11,15 +11,15 @@ loop-k-init c = first_none _
 pub loop-k-preserved : goal.loop-k-preserved
 loop-k-preserved c =
     let test = has_rank c.args.rows.now (members c.args.tasks.now) c.args.rank in
-    let same : has_rank c.args.rows.now (members c.args.tasks.now) c.args.rank c.loop-k.k ≡ (c.has.result && eqb c.rank-at.result c.args.rank) = rw (c.has.ensures.answer, c.rank-at.ensures.answer) in
-    first_no test c.loop-k.k c.loop-k.invariant (same ∙ c.if-has-rank-at.false)
+    let same : has_rank c.args.rows.now (members c.args.tasks.now) c.args.rank c.loop-k.k ≡ (c.has.result && eqb c.rank_at.result c.args.rank) = rw (c.has.ensures.answer, c.rank_at.ensures.answer) in
+    first_no test c.loop-k.k c.loop-k.invariant (same ∙ c.if-has-rank_at.false)
 
-pub returns-then-has-rank-at : goal.returns-then-has-rank-at
-returns-then-has-rank-at c =
+pub returns-then-has-rank_at : goal.returns-then-has-rank_at
+returns-then-has-rank_at c =
     let test = has_rank c.args.rows.now (members c.args.tasks.now) c.args.rank in
     let k = c.loop-k.k in
-    let same : has_rank c.args.rows.now (members c.args.tasks.now) c.args.rank c.loop-k.k ≡ (c.has.result && eqb c.rank-at.result c.args.rank) = rw (c.has.ensures.answer, c.rank-at.ensures.answer) in
-    sym (first_stays test (k + 1) 64 k (omega (arith, c.loop-k-test.true)) (first_yes test k c.loop-k.invariant (same ∙ c.if-has-rank-at.true)))
+    let same : has_rank c.args.rows.now (members c.args.tasks.now) c.args.rank c.loop-k.k ≡ (c.has.result && eqb c.rank_at.result c.args.rank) = rw (c.has.ensures.answer, c.rank_at.ensures.answer) in
+    sym (first_stays test (k + 1) 64 k (omega (arith, c.loop-k-test.true)) (first_yes test k c.loop-k.invariant (same ∙ c.if-has-rank_at.true)))
 
 pub returns : goal.returns
 returns c =

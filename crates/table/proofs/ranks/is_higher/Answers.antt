@@ -4,7 +4,7 @@ use Rattle.table.proofs.ranks.is_higher.Goals as goal
 use Rattle.table.proofs.ranks.is_higher.Goals.{else-number-rows-via-else-number-rows, else-number-rows-via-then-number-rows+else-other-rows, else-number-rows-via-then-number-rows+then-other-rows+else-other-lt-NUMBERS}
 use Rattle.table.specs.Ranks.{higher_ranked}
 use Rattle.table.specs.Rows.{is_task, on_core}
-use Rattle.std.proofs.Common.{◌≡◌, sym}
+use Rattle.std.proofs.Common.{sym}
 
 pub returns-then-other-lt-NUMBERS : goal.returns-then-other-lt-NUMBERS
 unfolding higher_ranked on_core is_task

@@ -3,7 +3,7 @@ use Rattle.table.proofs.Places.{no_task_outside, no_task_past, off_core}
 use Rattle.table.proofs.ranks.is_on_core.Goals as goal
 use Rattle.table.proofs.ranks.is_on_core.Goals.{else-number-rows-via-else-number-rows, else-number-rows-via-then-number-rows+else-number-lt-NUMBERS}
 use Rattle.table.specs.Rows.{is_task, on_core}
-use Rattle.std.proofs.Common.{◌≡◌, sym}
+use Rattle.std.proofs.Common.{sym}
 
 pub returns-then-number-lt-NUMBERS : goal.returns-then-number-lt-NUMBERS
 unfolding on_core is_task

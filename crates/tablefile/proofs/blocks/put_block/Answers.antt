@@ -27,10 +27,10 @@ unfolding block_bytes
 returns c =
     let out = c.args.out.now in
     let at = c.args.at in
-    let now = c.put-front.new.out in
+    let now = c.put_front.new.out in
     let front = front_bytes c.args.board.now c.args.number (records_for c.args.rows.now c.args.chosen.now) in
     let long : length front ≡ 510 = length_front c.args.board.now c.args.number (records_for c.args.rows.now c.args.chosen.now) in
-    let sum : c.reckon-check-check.result ≡ check_of front = c.reckon-check-check.ensures ∙ ap check_of (summed out now front at long (omega (arith, c.requires.room)) c.put-front.ensures) in
+    let sum : c.reckon_check-check.result ≡ check_of front = c.reckon_check-check.ensures ∙ ap check_of (summed out now front at long (omega (arith, c.requires.room)) c.put_front.ensures) in
     c.put.ensures
-    ∙ ap (pasted now (at + 510)) (c.to-be-bytes.ensures ∙ ap (spelled 2) sum)
-    ∙ joined out now front (spelled 2 (check_of front)) at long refl c.requires.room c.put-front.ensures
+    ∙ ap (pasted now (at + 510)) (c.to_be_bytes.ensures ∙ ap (spelled 2) sum)
+    ∙ joined out now front (spelled 2 (check_of front)) at long refl c.requires.room c.put_front.ensures

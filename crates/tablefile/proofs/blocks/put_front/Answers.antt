@@ -35,6 +35,6 @@ returns c =
     let head = header (spelled 2 c.args.number) (length rs) board.cores board.resources in
     let written : c.put.new.out ≡ pasted out at head =
     c.put.ensures
-    ∙ ap (λ xs. pasted out at (header xs (length chosen) board.cores board.resources)) (c.to-be-bytes.ensures ∙ ap (spelled 2) c.from.ensures)
+    ∙ ap (λ xs. pasted out at (header xs (length chosen) board.cores board.resources)) (c.to_be_bytes.ensures ∙ ap (spelled 2) c.from.ensures)
     ∙ ap (λ n. pasted out at (header (spelled 2 c.args.number) n board.cores board.resources)) (sym (length-map chosen (entry c.args.rows.now))) in
-    front_on out c.put.new.out c.put-places.new.out c.put-zeros.new.out head (laid 10 (place_bytes rs)) at refl (length_places rs) c.requires.room written c.put-places.ensures c.put-zeros.ensures
+    front_on out c.put.new.out c.put_places.new.out c.put_zeros.new.out head (laid 10 (place_bytes rs)) at refl (length_places rs) c.requires.room written c.put_places.ensures c.put_zeros.ensures

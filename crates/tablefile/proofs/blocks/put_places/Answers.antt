@@ -14,7 +14,7 @@ loop-p-preserved c =
     let rs = records_for c.args.rows.now c.args.chosen.now in
     let at = c.args.at in
     let p = c.loop-p.p in
-    c.put-place.ensures
+    c.put_place.ensures
     ∙ ap (λ o. pasted o (at + 48 * p) (place_bytes rs p)) c.loop-p.invariant
     ∙ pasted_laid 48 (place_bytes rs) c.args.out.now at p (length_place rs) (omega arith)
 

@@ -7,5 +7,5 @@ use Rattle.tablefile.specs.Spelling.{spells}
 pub returns : goal.returns
 returns c =
     let bs = c.args.bytes.now in
-    ap (λ n. eqb n c.reckon-check.result) (c.from-be-bytes.ensures ∙ last_spell bs 510 c.requires)
-    ∙ ap (eqb (spells (drop 510 bs))) (c.reckon-check.ensures ∙ ap (λ k. check_of (take (k - 2) bs)) c.requires)
+    ap (λ n. eqb n c.reckon_check.result) (c.from_be_bytes.ensures ∙ last_spell bs 510 c.requires)
+    ∙ ap (eqb (spells (drop 510 bs))) (c.reckon_check.ensures ∙ ap (λ k. check_of (take (k - 2) bs)) c.requires)

@@ -26,27 +26,27 @@ walked bs r1 r2 r3 r4 f1 f2 f3 f4 =
     let e3 : r3 ≡ drop 16 bs = rest_later bs r2 r3 12 4 e2 f3 in
     (e1, e2, e3, rest_later bs r3 r4 16 16 e3 f4)
 
-pub next-four-requires-in-len4-up : goal.next-four-requires-in-len4-up
-next-four-requires-in-len4-up c =
+pub next_four-requires-in-len4-up : goal.next_four-requires-in-len4-up
+next_four-requires-in-len4-up c =
     let bs = c.args.bytes.now in
-    let e = walked bs c.next-word-cost.result.1.now c.next-word-period.result.1.now c.next-word-deadline.result.1.now c.next-four.result.1.now c.next-word-cost.ensures.after c.next-word-period.ensures.after c.next-word-deadline.ensures.after c.next-four.ensures.after in
+    let e = walked bs c.next_word-cost.result.1.now c.next_word-period.result.1.now c.next_word-deadline.result.1.now c.next_four.result.1.now c.next_word-cost.ensures.after c.next_word-period.ensures.after c.next_word-deadline.ensures.after c.next_four.ensures.after in
     omega (arith, ap length e.3, length-drop 32 bs, c.if-bytes-ne48.false)
 
 pub returns : goal.returns
 unfolding record_of made
 returns c =
     let bs = c.args.bytes.now in
-    let r1 = c.next-word-cost.result.1.now in
-    let r2 = c.next-word-period.result.1.now in
-    let r3 = c.next-word-deadline.result.1.now in
-    let r4 = c.next-four.result.1.now in
-    let e = walked bs r1 r2 r3 r4 c.next-word-cost.ensures.after c.next-word-period.ensures.after c.next-word-deadline.ensures.after c.next-four.ensures.after in
+    let r1 = c.next_word-cost.result.1.now in
+    let r2 = c.next_word-period.result.1.now in
+    let r3 = c.next_word-deadline.result.1.now in
+    let r4 = c.next_four.result.1.now in
+    let e = walked bs r1 r2 r3 r4 c.next_word-cost.ensures.after c.next_word-period.ensures.after c.next_word-deadline.ensures.after c.next_four.ensures.after in
     let spelled =
     same bs
-    (c.next-word-cost.ensures.value ∙ word_later bs (take (length bs - 4) (drop 4 bs)) 4 0 (take_rest bs 4))
-    (c.next-word-period.ensures.value ∙ word_later bs r1 8 0 e.0)
-    (c.next-word-deadline.ensures.value ∙ word_later bs r2 12 0 e.1)
-    (c.next-four.ensures.value ∙ four_later bs r3 16 e.2)
-    (c.next-four-in-len4-up.ensures.value ∙ four_later bs r4 32 e.3) in
+    (c.next_word-cost.ensures.value ∙ word_later bs (take (length bs - 4) (drop 4 bs)) 4 0 (take_rest bs 4))
+    (c.next_word-period.ensures.value ∙ word_later bs r1 8 0 e.0)
+    (c.next_word-deadline.ensures.value ∙ word_later bs r2 12 0 e.1)
+    (c.next_four.ensures.value ∙ four_later bs r3 16 e.2)
+    (c.next_four-in-len4-up.ensures.value ∙ four_later bs r4 32 e.3) in
     let answer = spelled ∙ sym (ap (λ t. cond t (spelled_record bs) no_record) (eq-eqb (length bs) 48 c.if-bytes-ne48.false)) in
-    record { answer = answer; nothing-lost = λ long. ap record_bytes answer ∙ bytes_kept bs long (λ i. omega (arith, c.type-inv.bytes i)) }
+    record { answer = answer; nothing_lost = λ long. ap record_bytes answer ∙ bytes_kept bs long (λ i. omega (arith, c.type_inv.bytes i)) }

@@ -14,6 +14,6 @@ returns c =
     let head = r.number ∷ r.row.core ∷ r.row.rank ∷ r.fourth ∷ [] in
     let words = laid 11 (word_in (words r.row.figures)) in
     let long : length words ≡ 44 = length_words r.row.figures in
-    c.put-words.ensures
+    c.put_words.ensures
     ∙ ap (λ o. pasted o (at + 4) words) c.put.ensures
     ∙ pasted_on out at head words (omega (arith, c.requires, long))

@@ -4,4 +4,4 @@ use Rattle.tablefile.specs.Parts.{pasted}
 use Rattle.std.proofs.Common.{ap, ◌∙◌}
 
 pub returns : goal.returns
-returns c = c.put.ensures ∙ ap (pasted c.args.out.now c.args.at) (c.to-be-bytes.ensures ∙ four_spelled c.args.n)
+returns c = c.put.ensures ∙ ap (pasted c.args.out.now c.args.at) (c.to_be_bytes.ensures ∙ four_spelled c.args.n)

@@ -14,7 +14,7 @@ loop-i-preserved c =
     let out = c.args.out.now in
     let at = c.args.at in
     let i = c.loop-i.i in
-    c.put-word.ensures
+    c.put_word.ensures
     ∙ ap (λ o. pasted o (at + 4 * i) (f i)) c.loop-i.invariant
     ∙ pasted_laid 4 f out at i (λ k. length_spelled 4 (get_or c.args.words.now k 0)) (omega arith)
 

@@ -4,7 +4,7 @@ use Rattle.table.proofs.Places.{task_below}
 use Rattle.table.specs.declared.row.Row.{Row}
 use Rattle.tablefile.proofs.Numbered.{tasks_in, tasks_none, tasks_out}
 use Rattle.tablefile.proofs.gathering.gather.Goals as goal
-use Rattle.tablefile.proofs.gathering.gather.Goals.{else-has-task, then-has-task}
+use Rattle.tablefile.proofs.gathering.gather.Goals.{else-has_task, then-has_task}
 use Rattle.tablefile.specs.Numbers.{numbers, tasks_below}
 
 pub loop-i-init : goal.loop-i-init
@@ -18,21 +18,21 @@ loop-i-preserved c =
     let rows = c.args.rows.now in
     let i = c.loop-i.i in
     let room : c.loop-i.count < length c.loop-i.list = omega arith in
-    elim c.if-has-task.branch [
-      | then-has-task w ↦ (
-        ap (λ n. take n c.if-has-task.list) w.count-is ∙ ap (take (c.loop-i.count + 1)) w.list-is
+    elim c.if-has_task.branch [
+      | then-has_task w ↦ (
+        ap (λ n. take n c.if-has_task.list) w.count-is ∙ ap (take (c.loop-i.count + 1)) w.list-is
             ∙ stored rows c.loop-i.list c.loop-i.count i room c.loop-i.invariant.0
-            ∙ sym (tasks_in rows i (sym c.has-task.ensures.answer ∙ w.if-has-task.true)),
+            ∙ sym (tasks_in rows i (sym c.has_task.ensures.answer ∙ w.if-has_task.true)),
         omega (arith, w.count-is),
         ap length w.list-is ∙ length-set c.loop-i.list c.loop-i.count i ∙ c.loop-i.invariant.2,
-        below_more _ _ c.loop-i.invariant.3 c.has-task.ensures.whole,
+        below_more _ _ c.loop-i.invariant.3 c.has_task.ensures.whole,
       )
-      | else-has-task w ↦ (
-        ap (λ n. take n c.if-has-task.list) w.count-is ∙ ap (take c.loop-i.count) w.list-is
-            ∙ c.loop-i.invariant.0 ∙ sym (tasks_out rows i (sym c.has-task.ensures.answer ∙ w.if-has-task.false)),
+      | else-has_task w ↦ (
+        ap (λ n. take n c.if-has_task.list) w.count-is ∙ ap (take c.loop-i.count) w.list-is
+            ∙ c.loop-i.invariant.0 ∙ sym (tasks_out rows i (sym c.has_task.ensures.answer ∙ w.if-has_task.false)),
         omega (arith, w.count-is),
         ap length w.list-is ∙ c.loop-i.invariant.2,
-        below_more _ _ c.loop-i.invariant.3 c.has-task.ensures.whole,
+        below_more _ _ c.loop-i.invariant.3 c.has_task.ensures.whole,
       )
     ]
 

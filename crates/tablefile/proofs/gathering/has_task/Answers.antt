@@ -7,8 +7,8 @@ use Rattle.std.proofs.Common.{sym}
 pub returns-then-number-rows : goal.returns-then-number-rows
 unfolding is_task
 returns-then-number-rows c = record {
-  answer = rw (lt-ltb c.args.number 64 c.requires, c.is-kept.ensures.answer);
-  whole = λ _. c.is-kept.ensures.whole;
+  answer = rw (lt-ltb c.args.number 64 c.requires, c.is_kept.ensures.answer);
+  whole = λ _. c.is_kept.ensures.whole;
 }
 
 pub returns-else-number-rows : goal.returns-else-number-rows

@@ -10,5 +10,5 @@ pub returns : goal.returns
 returns c =
     let out = c.args.out.now in
     let bs = c.args.bytes.now in
-    ap (put_mid c.args.at (c.args.at + length bs - c.args.at) out) c.copy-from-slice.ensures.after
+    ap (put_mid c.args.at (c.args.at + length bs - c.args.at) out) c.copy_from_slice.ensures.after
     ∙ put_part out c.args.at (c.args.at + length bs - c.args.at) bs (same c.args.at (length bs))

@@ -14,19 +14,19 @@ returns-then-out-blocks c =
     let rows = c.args.rows.now in
     let found = c.gather-found.result in
     let gathered = c.gather-found.ensures in
-    let blocks : c.blocks-needed-blocks.result ≡ blocks_for (length (numbers rows)) = gathered_blocks rows found.list found.count c.blocks-needed-blocks.result gathered.found gathered.few gathered.long c.blocks-needed-blocks.ensures.answer in
-    let long : length (file_bytes board rows) ≡ 512 * c.blocks-needed-blocks.result = length_file board rows ∙ ap (λ n. 512 * n) (sym blocks) in
+    let blocks : c.blocks_needed-blocks.result ≡ blocks_for (length (numbers rows)) = gathered_blocks rows found.list found.count c.blocks_needed-blocks.result gathered.found gathered.few gathered.long c.blocks_needed-blocks.ensures.answer in
+    let long : length (file_bytes board rows) ≡ 512 * c.blocks_needed-blocks.result = length_file board rows ∙ ap (λ n. 512 * n) (sym blocks) in
     let less : length c.args.out.now < length (file_bytes board rows) = omega (arith, long, c.if-out-blocks.true) in
     record { answer = short_answer board rows (length c.args.out.now) less; buffer = short_buffer board rows c.args.out.now less; reads_back = tt }
 
 pub loop-k-init : goal.loop-k-init
 loop-k-init c = pasted_laid_none (λ k. block_bytes c.args.board.now k (in_block c.args.rows.now k)) c.args.out.now 0
 
-pub put-block-requires : goal.put-block-requires
-put-block-requires c =
+pub put_block-requires : goal.put_block-requires
+put_block-requires c =
     let rows = c.args.rows.now in
-    let chosen = c.chosen-for-chosen.result.now in
-    let e : chosen ≡ part (numbers rows) (10 * c.loop-k.k) 10 = c.chosen-for-chosen.ensures ∙ ap (λ ns. part ns (10 * c.loop-k.k) 10) c.gather-found.ensures.found in
+    let chosen = c.chosen_for-chosen.result.now in
+    let e : chosen ≡ part (numbers rows) (10 * c.loop-k.k) 10 = c.chosen_for-chosen.ensures ∙ ap (λ ns. part ns (10 * c.loop-k.k) 10) c.gather-found.ensures.found in
     record { room = omega arith; few = chosen_few (numbers rows) chosen c.loop-k.k e; within = chosen_within rows chosen c.loop-k.k e }
 
 none : (n : ℕ) → n ≡ 0 + n
@@ -38,10 +38,10 @@ loop-k-preserved c =
     let rows = c.args.rows.now in
     let out = c.args.out.now in
     let k = c.loop-k.k in
-    let chosen = c.chosen-for-chosen.result.now in
+    let chosen = c.chosen_for-chosen.result.now in
     let f : ℕ → List ℕ = λ k. block_bytes board k (in_block rows k) in
-    let e : chosen ≡ part (numbers rows) (10 * k) 10 = c.chosen-for-chosen.ensures ∙ ap (λ ns. part ns (10 * k) 10) c.gather-found.ensures.found in
-    c.put-block.ensures
+    let e : chosen ≡ part (numbers rows) (10 * k) 10 = c.chosen_for-chosen.ensures ∙ ap (λ ns. part ns (10 * k) 10) c.gather-found.ensures.found in
+    c.put_block.ensures
     ∙ ap (λ ns. pasted c.loop-k.out (512 * k) (block_bytes board k (records_for rows ns))) e
     ∙ ap (λ o. pasted o (512 * k) (f k)) c.loop-k.invariant
     ∙ ap (λ at. pasted (pasted out 0 (laid k f)) at (f k)) (none (512 * k))
@@ -56,13 +56,13 @@ returns c =
     let found = c.gather-found.result in
     let f : ℕ → List ℕ = λ k. block_bytes board k (in_block rows k) in
     let gathered = c.gather-found.ensures in
-    let blocks : c.blocks-needed-blocks.result ≡ blocks_for (length (numbers rows)) = gathered_blocks rows found.list found.count c.blocks-needed-blocks.result gathered.found gathered.few gathered.long c.blocks-needed-blocks.ensures.answer in
-    let long : length (file_bytes board rows) ≡ 512 * c.blocks-needed-blocks.result = length_file board rows ∙ ap (λ n. 512 * n) (sym blocks) in
-    let all : c.loop-k.k ≡ c.blocks-needed-blocks.result = omega arith in
+    let blocks : c.blocks_needed-blocks.result ≡ blocks_for (length (numbers rows)) = gathered_blocks rows found.list found.count c.blocks_needed-blocks.result gathered.found gathered.few gathered.long c.blocks_needed-blocks.ensures.answer in
+    let long : length (file_bytes board rows) ≡ 512 * c.blocks_needed-blocks.result = length_file board rows ∙ ap (λ n. 512 * n) (sym blocks) in
+    let all : c.loop-k.k ≡ c.blocks_needed-blocks.result = omega arith in
     let room : length (file_bytes board rows) ≤ length out = omega (arith, long, c.if-out-blocks.false) in
     let written = c.loop-k.invariant ∙ ap (λ n. pasted out 0 (laid n f)) (all ∙ blocks) ∙ pasted_buffer board rows out room in
     record {
-      answer = long_answer board rows (length out) (512 * c.blocks-needed-blocks.result) room (sym long);
+      answer = long_answer board rows (length out) (512 * c.blocks_needed-blocks.result) room (sym long);
       buffer = written;
-      reads_back = written_back board rows out c.loop-k.out (512 * c.blocks-needed-blocks.result) gathered.whole room (sym long) written;
+      reads_back = written_back board rows out c.loop-k.out (512 * c.blocks_needed-blocks.result) gathered.whole room (sym long) written;
     }

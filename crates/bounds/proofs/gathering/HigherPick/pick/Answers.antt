@@ -4,7 +4,7 @@ use Rattle.std.proofs.lemmas.Bool.{and_from, and_right}
 use Rattle.table.proofs.Places.{off_core, on_core_from, other_core}
 use Rattle.table.proofs.Slots.{slot_none, slot_row, slot_task}
 use Rattle.table.specs.declared.row.Row.{Row}
-use Rattle.std.proofs.Common.{◌≡◌, sym, ap, ◌∙◌}
+use Rattle.std.proofs.Common.{sym, ap, ◌∙◌}
 
 pub returns-then-task-self : goal.returns-then-task-self
 returns-then-task-self c =
@@ -22,5 +22,5 @@ returns-else-task-self c =
     let row = slot_row c.args.self.now.tasks.now c.args.number c.in-Some.task (sym c.in-Some.ensures.answer) in
     and_right _ _ (other_core _ _ c.args.number (λ e. c.if-task-self.false (sym (ap (λ (q : Row). q.core) row) ∙ e)))
 
-pub returns-in-default : goal.returns-in-default
-returns-in-default c = and_right _ _ (off_core _ _ c.args.number (slot_none c.args.self.now.tasks.now c.args.number (sym c.in-default.ensures.answer)))
+pub returns-in_default : goal.returns-in_default
+returns-in_default c = and_right _ _ (off_core _ _ c.args.number (slot_none c.args.self.now.tasks.now c.args.number (sym c.in_default.ensures.answer)))

@@ -2,7 +2,7 @@ use Rattle.bounds.proofs.load.Load.higher.Goals as goal
 use Rattle.table.proofs.Limited.{limited}
 use Rattle.std.proofs.Common.{arith}
 
-pub invariant-of-result : goal.invariant-of-result
-invariant-of-result c =
+pub invariant_of-result : goal.invariant_of-result
+invariant_of-result c =
     let k = limited c.args.task.now.figures c.args.task.now.limits in
-    (c.requires, (k.period_low, (k.period_high, (omega arith, (k.cost_high, (k.sensitivity_small, tt))))))
+    record { core_low = c.requires; period_low = k.period_low; period_high = k.period_high; ahead_high = omega arith; cost_high = k.cost_high; weight_high = k.sensitivity_small }

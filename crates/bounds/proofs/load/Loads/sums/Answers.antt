@@ -1,6 +1,6 @@
 use Rattle.bounds.proofs.Totals.{at_most_more, at_most_weaker, seen_le, total_more, total_none}
 use Rattle.bounds.proofs.load.Loads.sums.Goals as goal
-use Rattle.bounds.specs.Loads.{Added, Total, every, seen}
+use Rattle.bounds.specs.Loads.{Added, Total, every}
 use Rattle.std.proofs.Common.{◌≡◌, get_or, take, refl, subst, arith}
 
 pub loop-k-init : goal.loop-k-init

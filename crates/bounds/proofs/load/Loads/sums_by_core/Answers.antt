@@ -1,8 +1,7 @@
-use Rattle.std.proofs.Common.{◌≡◌, ℕ, ◌+◌, ◌*◌, ◌<◌, ◌≤◌, get_or, take, refl, ◌∙◌, subst, arith}
+use Rattle.std.proofs.Common.{◌≡◌, get_or, take, refl, ◌∙◌, subst, arith}
 use Rattle.bounds.proofs.Totals.{at_most_weaker, by_core_more, by_core_none}
 use Rattle.bounds.proofs.load.Loads.sums_by_core.Goals as goal
-use Rattle.bounds.specs.Loads.{Added, Total, no_sums, of_core, seen}
-use Rattle.bounds.specs.declared.load.Load.{Load}
+use Rattle.bounds.specs.Loads.{Added, Total, no_sums, of_core}
 use Rattle.std.proofs.lemmas.List.{length-set}
 use Rattle.table.proofs.Limited.{below_four}
 

@@ -1,18 +1,18 @@
 use Rattle.bounds.proofs.prepared.CheckedTable.own.Goals as goal
-use Rattle.bounds.specs.Demand.{above, core}
+use Rattle.bounds.specs.Demand.{above}
 use Rattle.bounds.specs.Gathering.{Gathers, higher_form}
 use Rattle.table.proofs.Places.{on_board_core}
 use Rattle.table.specs.Rows.{on_core, row_at}
-use Rattle.table.specs.Sets.{Set, members}
+use Rattle.table.specs.Sets.{members}
 use Rattle.table.specs.Tasks.{listed}
 use Rattle.table.specs.declared.row.Row.{Row}
-use Rattle.std.proofs.Common.{◌≡◌, not, ◌&&◌, eqb, sym, ap, subst, arith}
+use Rattle.std.proofs.Common.{not, ◌&&◌, eqb, sym, ap, subst, arith}
 
-pub invariant-of-gather : goal.invariant-of-gather
-invariant-of-gather c =
+pub invariant_of-gather : goal.invariant_of-gather
+invariant_of-gather c =
     let found = c.in-Some.ensures in
     let board = c.args.self.now.board in
-    (omega (arith, on_board_core board (listed c.args.self.now.tasks) c.args.number found.0, ap (λ (q : Row). q.core) found.1, board.few_cores), tt)
+    record { core_low = omega (arith, on_board_core board (listed c.args.self.now.tasks) c.args.number found.0, ap (λ (q : Row). q.core) found.1, board.few_cores) }
 
 pub returns-in-Some : goal.returns-in-Some
 unfolding above

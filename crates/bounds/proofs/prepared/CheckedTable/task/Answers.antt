@@ -1,4 +1,4 @@
-use Rattle.std.proofs.Common.{◌≡◌, ◌<◌, ◌≤◌, sym, subst}
+use Rattle.std.proofs.Common.{◌<◌, ◌≤◌, sym, subst}
 use Rattle.bounds.proofs.prepared.CheckedTable.task.Goals as goal
 use Rattle.table.proofs.Places.{off_board, off_cores, on_board_from}
 use Rattle.table.proofs.Slots.{slot_none, slot_row, slot_task}
@@ -17,5 +17,5 @@ returns-else-task-self c =
     let row = slot_row table.tasks c.args.number c.in-Some.task (sym c.in-Some.ensures.answer) in
     off_cores table.board _ c.args.number (subst (λ (q : Row). table.board.cores ≤ q.core) (sym row) c.if-task-self.false)
 
-pub returns-in-default : goal.returns-in-default
-returns-in-default c = off_board _ _ c.args.number (slot_none c.args.self.now.tasks c.args.number (sym c.in-default.ensures.answer))
+pub returns-in_default : goal.returns-in_default
+returns-in_default c = off_board _ _ c.args.number (slot_none c.args.self.now.tasks c.args.number (sym c.in_default.ensures.answer))

@@ -1,4 +1,4 @@
-use Rattle.std.proofs.Common.{◌≡◌, ℕ, ◌+◌, ◌<◌, ◌≤◌, get_or, set, sym, refl, ◌∙◌, subst, ⊎_elim, arith}
+use Rattle.std.proofs.Common.{◌≡◌, ℕ, ◌+◌, ◌<◌, ◌≤◌, get_or, set, sym, ◌∙◌, subst, ⊎_elim, arith}
 use Rattle.bounds.proofs.Answered.{slot_deadline, slot_deadline_small}
 use Rattle.bounds.proofs.prepared.asking.deadlines.Goals as goal
 use Rattle.bounds.specs.Questions.{deadline_in}
@@ -13,8 +13,8 @@ loop-j-preserved c =
     let f : ℕ → ℕ = λ k. deadline_in (slot c.args.tasks.now k) in
     let all = c.loop-j.all in
     let j = c.loop-j.j in (
-      length-set all j c.deadline-at.result ∙ c.loop-j.invariant.0,
-      subst (λ n. (k : ℕ) → k < j + 1 → get_or (set all j n) k 0 ≡ f k) (sym c.deadline-at.ensures)
+      length-set all j c.deadline_at.result ∙ c.loop-j.invariant.0,
+      subst (λ n. (k : ℕ) → k < j + 1 → get_or (set all j n) k 0 ≡ f k) (sym c.deadline_at.ensures)
           (fill_by_more f all j 0 (omega (arith, c.loop-j.invariant.0)) c.loop-j.invariant.1),
     )
 

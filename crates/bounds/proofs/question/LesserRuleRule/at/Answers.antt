@@ -1,4 +1,4 @@
-use Rattle.std.proofs.Common.{◌≡◌, ◌+◌, ◌^◌, ◌<◌, ◌≤◌, get_or, ap, ◌∙◌, arith}
+use Rattle.std.proofs.Common.{◌≡◌, ◌<◌, get_or, ap, ◌∙◌, arith}
 use Rattle.bounds.proofs.Valued.{so_far, so_far_all, so_far_more, so_far_none, so_far_same}
 use Rattle.bounds.proofs.question.LesserRuleRule.at.Goals as goal
 use Rattle.bounds.proofs.question.LesserRuleRule.at.Goals.{else-y-core, then-y-core}
@@ -11,11 +11,11 @@ loop-y-init c = (so_far_none c.args.self.now.board c.args.self.now.own c.args.se
 pub total-sum-requires : goal.total-sum-requires
 total-sum-requires c = record {
   few = c.args.self.now.board.few_resources;
-  small = λ r l. omega (arith, c.lesser-shares.ensures r l, min-le_right (get_or (get_or c.sums-by-core-theirs.result c.loop-y.y no_sums).shared r 0) (get_or c.sums-own.result.shared r 0), c.sums-own.ensures.small.shared r l);
+  small = λ r l. omega (arith, c.lesser-shares.ensures r l, min-le_right (get_or (get_or c.sums_by_core-theirs.result c.loop-y.y no_sums).shared r 0) (get_or c.sums-own.result.shared r 0), c.sums-own.ensures.small.shared r l);
 }
 
-pub overflow-add-sum : goal.overflow-add-sum
-overflow-add-sum c =
+pub overflow_add-sum : goal.overflow_add-sum
+overflow_add-sum c =
     let board = c.args.self.now.board in
     omega (arith, c.loop-y.invariant.1, c.total-sum.ensures.small, c.loop-y-test.true, board.few_cores, board.few_resources)
 
@@ -28,7 +28,7 @@ loop-y-preserved c =
     elim c.if-y-core.branch [
       | then-y-core w ↦
           let eight : y < 8 = omega (arith, c.loop-y-test.true, q.board.few_cores) in (
-            omega (arith, w.sum-is, c.loop-y.invariant.0, w.total-sum.ensures.value, so_far_more q.board q.own q.rivals.now t y own.result (get_or c.sums-by-core-theirs.result y no_sums) w.lesser-shares.result w.if-y-core.true own.ensures.value (c.sums-by-core-theirs.ensures y eight) w.lesser-shares.ensures),
+            omega (arith, w.sum-is, c.loop-y.invariant.0, w.total-sum.ensures.value, so_far_more q.board q.own q.rivals.now t y own.result (get_or c.sums_by_core-theirs.result y no_sums) w.lesser-shares.result w.if-y-core.true own.ensures.value (c.sums_by_core-theirs.ensures y eight) w.lesser-shares.ensures),
             omega (arith, w.sum-is, c.loop-y.invariant.1, w.total-sum.ensures.small, q.board.few_resources),
           )
       | else-y-core w ↦ (

@@ -1,4 +1,4 @@
-use Rattle.std.proofs.Common.{◌≡◌, ℕ, ◌+◌, ◌<◌, ◌≤◌, List, [], ◌∷◌, get_or, sum_by, sym, refl, ap, ◌∙◌, subst, arith}
+use Rattle.std.proofs.Common.{◌≡◌, ℕ, ◌+◌, ◌<◌, ◌≤◌, List, [], ◌∷◌, get_or, sum_by, sym, refl, ap, ◌∙◌, subst}
 use Rattle.bounds.proofs.question.Own.sums.Goals as goal
 use Rattle.bounds.specs.Loads.{held, weight_at}
 use Rattle.table.proofs.Limited.{below_four, each_small, limited}

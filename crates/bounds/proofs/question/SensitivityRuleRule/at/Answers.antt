@@ -1,10 +1,10 @@
-use Rattle.std.proofs.Common.{◌≡◌, ◌+◌, ◌-◌, ◌*◌, ◌^◌, ◌≤◌, ap, ◌∙◌, mul-le-mul, arith}
+use Rattle.std.proofs.Common.{◌+◌, ◌-◌, ◌*◌, ◌^◌, ◌≤◌, ap, ◌∙◌, mul-le-mul, arith}
 use Rattle.bounds.specs.Adding.{sum_same}
 use Rattle.bounds.proofs.question.SensitivityRuleRule.at.Goals as goal
 use Rattle.bounds.specs.Questions.{own_cost}
 
-pub overflow-add-result : goal.overflow-add-result
-overflow-add-result c =
+pub overflow_add-result : goal.overflow_add-result
+overflow_add-result c =
     let q = c.args.self.now in
     let few : q.board.cores - 1 ≤ 7 = omega (arith, q.board.few_cores) in
     let small : c.total.result ≤ 2 ^ 56 = omega (arith, c.total.ensures.small, q.board.few_resources) in

@@ -5,10 +5,9 @@ use Rattle.bounds.specs.Bounds.{ahead_bound}
 use Rattle.bounds.specs.Lengths.{length_of}
 use Rattle.bounds.specs.Rounds.{bound_after}
 use Rattle.std.proofs.lemmas.Bool.{cond-false, cond-true}
-use Rattle.table.specs.Ranks.{higher_ranked}
 use Rattle.table.specs.Sets.{members}
 use Rattle.table.specs.Tasks.{listed}
-use Rattle.std.proofs.Common.{◌≡◌, sym, ap, ◌∙◌}
+use Rattle.std.proofs.Common.{sym, ap, ◌∙◌}
 
 pub returns-in-Some : goal.returns-in-Some
 unfolding bound_after

@@ -1,7 +1,7 @@
 use Rattle.bounds.proofs.Checked.{checked_cost, checked_on_board}
 use Rattle.bounds.proofs.response.Ranked.cost_at.Goals as goal
 use Rattle.std.proofs.lemmas.Bool.{cond-false, cond-true}
-use Rattle.std.proofs.Common.{◌≡◌, sym, ◌∙◌}
+use Rattle.std.proofs.Common.{sym, ◌∙◌}
 
 pub returns-in-Some : goal.returns-in-Some
 returns-in-Some c =

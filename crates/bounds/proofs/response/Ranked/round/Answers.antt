@@ -1,4 +1,4 @@
-use Rattle.std.proofs.Common.{◌≡◌, ℕ, replicate, Option, sym, refl, ap, ◌∙◌, arith}
+use Rattle.std.proofs.Common.{ℕ, replicate, Option, sym, refl, ap, ◌∙◌, arith}
 use Rattle.bounds.proofs.Listed.{filled_all, filled_more, filled_none, filled_stop}
 use Rattle.bounds.proofs.response.Ranked.round.Goals as goal
 use Rattle.bounds.specs.Rounds.{bound_after, round_after}
@@ -12,7 +12,7 @@ returns-in-None c =
     let self = c.args.self.now in
     let f : ℕ → Option ℕ = bound_after self.table.board self.rows.now c.args.before.now in
     filled_stop f c.loop-i.i c.loop-i.bounds c.loop-i-test.true
-    (sym c.in-None.is ∙ c.bound-at.ensures ∙ ap (λ v. bound_after self.table.board self.rows.now v c.loop-i.i) c.with-lengths-rivals.ensures.ahead)
+    (sym c.in-None.is ∙ c.bound_at.ensures ∙ ap (λ v. bound_after self.table.board self.rows.now v c.loop-i.i) c.with_lengths-rivals.ensures.ahead)
     c.loop-i.invariant
 
 pub loop-i-preserved : goal.loop-i-preserved
@@ -20,7 +20,7 @@ loop-i-preserved c =
     let self = c.args.self.now in
     let f : ℕ → Option ℕ = bound_after self.table.board self.rows.now c.args.before.now in
     filled_more f c.loop-i.i c.in-Some.bound c.loop-i.bounds c.loop-i-test.true
-    (sym c.in-Some.is ∙ c.bound-at.ensures ∙ ap (λ v. bound_after self.table.board self.rows.now v c.loop-i.i) c.with-lengths-rivals.ensures.ahead)
+    (sym c.in-Some.is ∙ c.bound_at.ensures ∙ ap (λ v. bound_after self.table.board self.rows.now v c.loop-i.i) c.with_lengths-rivals.ensures.ahead)
     c.loop-i.invariant
 
 pub returns : goal.returns

@@ -1,4 +1,4 @@
-use Rattle.std.proofs.Common.{◌≡◌, ℕ, ◌+◌, ◌<◌, ◌≤◌, false, Ok, Err, sym, ap, ◌∙◌, subst, arith}
+use Rattle.std.proofs.Common.{◌≡◌, ◌<◌, false, sym, ap, subst, arith}
 use Rattle.bounds.proofs.Fair.{Fair, fair_next, fair_start}
 use Rattle.bounds.proofs.Falling.{differs, left, left_falls, left_start, step_ends, step_on, step_refused}
 use Rattle.bounds.proofs.response.Ranked.run.Goals as goal

@@ -5,7 +5,7 @@ use Rattle.std.proofs.lemmas.Fmt.{decimal_digit, decimal_step, length-decimal-le
 use Rattle.std.proofs.lemmas.List.{append_assoc, length_push}
 
 pub push-requires-else-n-lt10 : goal.push-requires-else-n-lt10
-push-requires-else-n-lt10 t c = omega (arith, c.push-decimal.ensures.long, length-decimal-le 19 (c.args.n / 10) (omega arith) (omega arith) (omega arith), c.requires)
+push-requires-else-n-lt10 t c = omega (arith, c.push_decimal.ensures.long, length-decimal-le 19 (c.args.n / 10) (omega arith) (omega arith) (omega arith), c.requires)
 
 pub returns-then-n-lt10 : goal.returns-then-n-lt10
 returns-then-n-lt10 t c =
@@ -24,9 +24,9 @@ returns-else-n-lt10 t c =
     record {
       shows =
           c.push-else-n-lt10.ensures.shows
-          ∙ ap (λ t. t ++ (48 + n % 10) ∷ []) c.push-decimal.ensures.shows
+          ∙ ap (λ t. t ++ (48 + n % 10) ∷ []) c.push_decimal.ensures.shows
           ∙ append_assoc start (decimal (n / 10)) ((48 + n % 10) ∷ [])
           ∙ ap (λ ds. start ++ ds) (sym d);
-      long = omega (arith, c.push-else-n-lt10.ensures.long, c.push-decimal.ensures.long, ap length d ∙ length_push (decimal (n / 10)) (48 + n % 10));
-      near = omega (arith, c.push-else-n-lt10.ensures.long, c.push-decimal.ensures.long, length-decimal-le 19 (n / 10) (omega arith) (omega arith) (omega arith));
+      long = omega (arith, c.push-else-n-lt10.ensures.long, c.push_decimal.ensures.long, ap length d ∙ length_push (decimal (n / 10)) (48 + n % 10));
+      near = omega (arith, c.push-else-n-lt10.ensures.long, c.push_decimal.ensures.long, length-decimal-le 19 (n / 10) (omega arith) (omega arith) (omega arith));
     }

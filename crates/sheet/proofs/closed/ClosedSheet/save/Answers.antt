@@ -5,7 +5,7 @@ pub returns : goal.returns
 returns c =
     let sheet = c.args.self.now in
     record {
-      answer = c.write-file.ensures.answer;
-      buffer = c.write-file.ensures.buffer;
-      loads_back = saves_so sheet.board sheet.rows.now c.write-file.result c.write-file.new.out c.write-file.ensures.reads_back;
+      answer = c.write_file.ensures.answer;
+      buffer = c.write_file.ensures.buffer;
+      loads_back = saves_so sheet.board sheet.rows.now c.write_file.result c.write_file.new.out c.write_file.ensures.reads_back;
     }

@@ -22,35 +22,35 @@ loop-k-preserved c =
     let s = state_of c.loop-k.self in
     let n = c.loop-k.entered in
     let k = c.loop-k.k in
-    let here : taken bytes s n (block_steps bytes k) ≡ going (state_of c.load-block.new.self) c.in-ok-entered.entered =
-    ap (λ b. taken b s n (block_steps b k)) (sym c.new-reader.ensures.answer) ∙ sym c.in-ok-entered.ensures.loads in (
-      laid_step bytes start 0 (block_steps bytes) k s n (going (state_of c.load-block.new.self) c.in-ok-entered.entered) c.loop-k.invariant.0 here,
-      omega (arith, c.in-ok-entered.ensures.few, c.loop-k.invariant.1),
-      c.load-block.ensures.lent ∙ c.loop-k.invariant.2,
+    let here : taken bytes s n (block_steps bytes k) ≡ going (state_of c.load_block.new.self) c.in_ok-entered.entered =
+    ap (λ b. taken b s n (block_steps b k)) (sym c.new-reader.ensures.answer) ∙ sym c.in_ok-entered.ensures.loads in (
+      laid_step bytes start 0 (block_steps bytes) k s n (going (state_of c.load_block.new.self) c.in_ok-entered.entered) c.loop-k.invariant.0 here,
+      omega (arith, c.in_ok-entered.ensures.few, c.loop-k.invariant.1),
+      c.load_block.ensures.lent ∙ c.loop-k.invariant.2,
     )
 
-pub returns-in-err-entered : goal.returns-in-err-entered
-returns-in-err-entered c =
+pub returns-in_err-entered : goal.returns-in_err-entered
+returns-in_err-entered c =
     let bytes = c.args.bytes.now in
     let start = state_of c.args.self.now in
     let s = state_of c.loop-k.self in
     let n = c.loop-k.entered in
     let k = c.loop-k.k in
-    let after = state_of c.load-block.new.self in
-    let why = c.in-err-entered.field-0.0 in
-    let p = err_from_is_err_and c.from-residual.result c.from-residual.ensures.1 in
-    let told : c.from-residual.result ≡ Err c.in-err-entered.field-0.0 = p.1 ∙ ap Err p.2 in
-    let here : taken bytes s n (block_steps bytes k) ≡ stopped (state_of c.load-block.new.self) c.in-err-entered.field-0.0 =
-    ap (λ b. taken b s n (block_steps b k)) (sym c.new-reader.ensures.answer) ∙ sym c.in-err-entered.ensures.loads in
+    let after = state_of c.load_block.new.self in
+    let why = c.in_err-entered.field-0.0 in
+    let p = err_from_is_err_and c.from_residual.result c.from_residual.ensures.1 in
+    let told : c.from_residual.result ≡ Err c.in_err-entered.field-0.0 = p.1 ∙ ap Err p.2 in
+    let here : taken bytes s n (block_steps bytes k) ≡ stopped (state_of c.load_block.new.self) c.in_err-entered.field-0.0 =
+    ap (λ b. taken b s n (block_steps b k)) (sym c.new-reader.ensures.answer) ∙ sym c.in_err-entered.ensures.loads in
     let blocks : k + 1 ≤ length bytes / 512 =
     subst (λ b. k + 1 ≤ length b / 512) c.new-reader.ensures.answer (omega (arith, c.loop-k-test.true, c.blocks-k-end.ensures.answer)) in
     let end : stopped after why ≡ loaded start bytes =
     sym (laid_stopped bytes start 0 (block_steps bytes) (k + 1) (length bytes / 512) after why blocks (laid_step bytes start 0 (block_steps bytes) k s n (stopped after why) c.loop-k.invariant.0 here))
-    ∙ sym (past_length start bytes (sym c.in-default.ensures.answer)) in
+    ∙ sym (past_length start bytes (sym c.in_default.ensures.answer)) in
     record {
       answer = told ∙ ap (λ (l : Loaded). l.told) end;
       after = ap (λ (l : Loaded). l.sheet) end;
-      lent = c.load-block.ensures.lent ∙ c.loop-k.invariant.2;
+      lent = c.load_block.ensures.lent ∙ c.loop-k.invariant.2;
       loads = subst (λ r. Loads start bytes r after) (sym told) (load_loads bytes start (stopped after why) end);
     }
 
@@ -61,7 +61,7 @@ returns c =
     let end : going (state_of c.loop-k.self) c.loop-k.entered ≡ loaded start bytes =
     sym c.loop-k.invariant.0
     ∙ ap (λ q. taken bytes start 0 (laid q (block_steps bytes))) (let z : c.loop-k.k ≡ length c.new-reader.result.bytes.now / 512 = omega (arith, c.loop-k-test.false, c.loop-k.auto.k-end, c.blocks-k-end.ensures.answer) in z ∙ ap (λ b. length b / 512) c.new-reader.ensures.answer)
-    ∙ sym (past_length start bytes (sym c.in-default.ensures.answer)) in
+    ∙ sym (past_length start bytes (sym c.in_default.ensures.answer)) in
     record {
       answer = ap (λ (l : Loaded). l.told) end;
       after = ap (λ (l : Loaded). l.sheet) end;

@@ -21,7 +21,7 @@ returns-in-None c =
     let s = state_of c.args.self.now in
     let k = c.args.block in
     record {
-      loads = c.load-records.ensures.loads ∙ sym (taken_more bytes s c.args.before (check k) (record_steps bytes k) (sym c.in-None.ensures));
-      few = c.load-records.ensures.few;
-      lent = c.load-records.ensures.lent;
+      loads = c.load_records.ensures.loads ∙ sym (taken_more bytes s c.args.before (check k) (record_steps bytes k) (sym c.in-None.ensures));
+      few = c.load_records.ensures.few;
+      lent = c.load_records.ensures.lent;
     }

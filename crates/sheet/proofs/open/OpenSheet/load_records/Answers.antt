@@ -30,12 +30,12 @@ loop-position-preserved c =
     let p = c.loop-position.position in
     let here = filed bytes k p in
     let same : c.decode.result ≡ filed bytes k p = c.decode.ensures.answer ∙ ap record_of c.record-block.ensures.answer.0 in
-    let none : record_refusal s here ≡ None = refusal_is s here c.decode.result same c.put-record.result c.put-record.ensures.answer ∙ c.in-None.is in
-    let then : state_of c.put-record.new.self ≡ entered s (entry_of here) =
-    leaves s here c.decode.result same c.put-record.result c.put-record.ensures.answer (state_of c.put-record.new.self) c.put-record.ensures.after ∙ ap (λ o. unless o (entered s (entry_of here)) s) c.in-None.is in (
-      laid_step bytes start c.args.before (one_record k) p s n (going (state_of c.put-record.new.self) (n + 1)) c.loop-position.invariant.0 (record_goes bytes s n k p none ∙ ap (λ z. going z (n + 1)) (sym then)),
+    let none : record_refusal s here ≡ None = refusal_is s here c.decode.result same c.put_record.result c.put_record.ensures.answer ∙ c.in-None.is in
+    let then : state_of c.put_record.new.self ≡ entered s (entry_of here) =
+    leaves s here c.decode.result same c.put_record.result c.put_record.ensures.answer (state_of c.put_record.new.self) c.put_record.ensures.after ∙ ap (λ o. unless o (entered s (entry_of here)) s) c.in-None.is in (
+      laid_step bytes start c.args.before (one_record k) p s n (going (state_of c.put_record.new.self) (n + 1)) c.loop-position.invariant.0 (record_goes bytes s n k p none ∙ ap (λ z. going z (n + 1)) (sym then)),
       omega (arith, c.loop-position.invariant.1),
-      c.put-record.ensures.lent ∙ c.loop-position.invariant.2,
+      c.put_record.ensures.lent ∙ c.loop-position.invariant.2,
     )
 
 pub returns-in-Some : goal.returns-in-Some
@@ -49,9 +49,9 @@ returns-in-Some c =
     let why = c.in-Some.cause in
     let here = filed bytes k p in
     let same : c.decode.result ≡ filed bytes k p = c.decode.ensures.answer ∙ ap record_of c.record-block.ensures.answer.0 in
-    let some : record_refusal s here ≡ Some why = refusal_is s here c.decode.result same c.put-record.result c.put-record.ensures.answer ∙ c.in-Some.is in
-    let then : state_of c.put-record.new.self ≡ s =
-    leaves s here c.decode.result same c.put-record.result c.put-record.ensures.answer (state_of c.put-record.new.self) c.put-record.ensures.after ∙ ap (λ o. unless o (entered s (entry_of here)) s) c.in-Some.is in
+    let some : record_refusal s here ≡ Some why = refusal_is s here c.decode.result same c.put_record.result c.put_record.ensures.answer ∙ c.in-Some.is in
+    let then : state_of c.put_record.new.self ≡ s =
+    leaves s here c.decode.result same c.put_record.result c.put_record.ensures.answer (state_of c.put_record.new.self) c.put_record.ensures.after ∙ ap (λ o. unless o (entered s (entry_of here)) s) c.in-Some.is in
     let told : c.at.result ≡ stop why k p n = c.at.ensures ∙ ap (λ b. stop why b c.record-block.result.2 n) c.record-block.ensures.answer.1 ∙ ap (λ q. stop why k q n) c.record-block.ensures.answer.2 in
     record {
       loads =
@@ -59,7 +59,7 @@ returns-in-Some c =
           ∙ ap (stopped s) told
           ∙ sym (laid_stopped bytes start c.args.before (one_record k) (p + 1) (count_at bytes k) s (stop why k p n) (omega (arith, c.loop-position-test.true, c.count-position-end.ensures.answer)) (laid_step bytes start c.args.before (one_record k) p s n (stopped s (stop why k p n)) c.loop-position.invariant.0 (record_stops bytes s n k p why some)));
       few = tt;
-      lent = c.put-record.ensures.lent ∙ c.loop-position.invariant.2;
+      lent = c.put_record.ensures.lent ∙ c.loop-position.invariant.2;
     }
 
 pub returns : goal.returns
@@ -68,6 +68,6 @@ returns c =
     let all : c.loop-position.position ≡ count_at bytes c.args.block = omega (arith, c.loop-position-test.false, c.loop-position.auto.position-end, c.count-position-end.ensures.answer) in
     record {
       loads = sym c.loop-position.invariant.0 ∙ ap (λ q. taken bytes (state_of c.args.self.now) c.args.before (laid q (one_record c.args.block))) all;
-      few = omega (arith, c.loop-position.invariant.1, c.loop-position.auto.position-end, c.count-position-end.type-inv);
+      few = omega (arith, c.loop-position.invariant.1, c.loop-position.auto.position-end, c.count-position-end.type_inv);
       lent = c.loop-position.invariant.2;
     }

@@ -25,12 +25,12 @@ pub loop-i-preserved : goal.loop-i-preserved
 loop-i-preserved c =
     let ys = c.loop-i.rows in
     let i = c.loop-i.i in
-    map_over_more (λ row. empty_row) c.args.rows.now ys i (get_or ys i past) (omega (arith, c.capacity-of-n.ensures.answer)) c.loop-i.invariant (get_or_default ys i past (get_or ys i past) (omega (arith, c.capacity-of-n.ensures.answer)))
+    map_over_more (λ row. empty_row) c.args.rows.now ys i (get_or ys i past) (omega (arith, c.capacity_of-n.ensures.answer)) c.loop-i.invariant (get_or_default ys i past (get_or ys i past) (omega (arith, c.capacity_of-n.ensures.answer)))
 
 pub returns : goal.returns
 returns c =
     let rows = c.args.rows.now in
     record {
-      after = ap (λ zs. record { board = c.args.board; rows = zs; marks = (fresh c.args.board rows).marks }) (c.loop-i.invariant ∙ up_to_64 rows c.loop-i.i (omega (arith, c.capacity-of-n.ensures.answer)));
+      after = ap (λ zs. record { board = c.args.board; rows = zs; marks = (fresh c.args.board rows).marks }) (c.loop-i.invariant ∙ up_to_64 rows c.loop-i.i (omega (arith, c.capacity_of-n.ensures.answer)));
       lent = refl;
     }

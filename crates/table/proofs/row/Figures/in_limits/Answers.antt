@@ -3,4 +3,4 @@ use Rattle.table.specs.Limits.{in_limits}
 
 pub returns : goal.returns
 unfolding in_limits
-returns c = record { answer = rw (c.are-small.ensures, c.are-small-2.ensures) }
+returns c = record { answer = rw (c.are_small.ensures, c.are_small-2.ensures) }

@@ -4,7 +4,7 @@ use Rattle.table.proofs.set.TaskSet.higher_ranked.Goals as goal
 use Rattle.table.specs.Ranks.{higher_ranked}
 
 pub loop-j-preserved : goal.loop-j-preserved
-loop-j-preserved c = flagged_more (higher_ranked c.args.rows.now c.args.number) c.loop-j.j c.loop-j.flags c.is-higher.result c.loop-j-test.true c.is-higher.ensures c.loop-j.invariant
+loop-j-preserved c = flagged_more (higher_ranked c.args.rows.now c.args.number) c.loop-j.j c.loop-j.flags c.is_higher.result c.loop-j-test.true c.is_higher.ensures c.loop-j.invariant
 
 pub returns : goal.returns
 returns c = record {

@@ -4,7 +4,7 @@ use Rattle.table.proofs.set.TaskSet.of_core.Goals as goal
 use Rattle.table.specs.Rows.{on_core}
 
 pub loop-k-preserved : goal.loop-k-preserved
-loop-k-preserved c = flagged_more (on_core c.args.rows.now c.args.core) c.loop-k.k c.loop-k.flags c.is-on-core.result c.loop-k-test.true c.is-on-core.ensures c.loop-k.invariant
+loop-k-preserved c = flagged_more (on_core c.args.rows.now c.args.core) c.loop-k.k c.loop-k.flags c.is_on_core.result c.loop-k-test.true c.is_on_core.ensures c.loop-k.invariant
 
 pub returns : goal.returns
 returns c = record {

@@ -1,4 +1,4 @@
-use Rattle.std.proofs.Common.{◌≡◌, ℕ, ◌+◌, ◌<◌, List, map, length, get_or, set, sym, refl, ◌∙◌, subst, arith}
+use Rattle.std.proofs.Common.{◌≡◌, ℕ, ◌+◌, ◌<◌, map, get_or, set, sym, refl, ◌∙◌, subst, arith}
 use Rattle.std.proofs.lemmas.List.FromFn.{fill_by_all}
 use Rattle.std.proofs.lemmas.List.Edits.{fill_by_more}
 use Rattle.std.proofs.lemmas.List.{length-map, length-set, map-set}
@@ -12,9 +12,9 @@ loop-k-preserved c =
     let f : ℕ → Row = λ j. plain_row (row_at c.args.rows.now j) in
     let slots = c.loop-k.slots in
     let k = c.loop-k.k in
-    let made : map row_of (set slots k c.task-at.result) ≡ set (map row_of slots) k (f k) =
-    map-set row_of slots k c.task-at.result ∙ subst (λ x. set (map row_of slots) k (row_of c.task-at.result) ≡ set (map row_of slots) k x) c.task-at.ensures refl in (
-      length-set slots k c.task-at.result ∙ c.loop-k.invariant.0,
+    let made : map row_of (set slots k c.task_at.result) ≡ set (map row_of slots) k (f k) =
+    map-set row_of slots k c.task_at.result ∙ subst (λ x. set (map row_of slots) k (row_of c.task_at.result) ≡ set (map row_of slots) k x) c.task_at.ensures refl in (
+      length-set slots k c.task_at.result ∙ c.loop-k.invariant.0,
       subst (λ rows. (j : ℕ) → j < k + 1 → get_or rows j past ≡ f j) (sym made)
           (fill_by_more f (map row_of slots) k past (omega (arith, length-map slots row_of, c.loop-k.invariant.0)) c.loop-k.invariant.1),
     )
