@@ -1,5 +1,5 @@
 use Rattle.std.proofs.Common.{◌≡◌, ℕ, ◌+◌, ◌-◌, ◌<◌, ◌≤◌, List, length, get_or, take, drop, sym, ap, ◌∙◌, arith}
-use Rattle.ordering.proofs.Reranks.{written_writes}
+use Rattle.ordering.proofs.Reranks.{written_ranges, written_writes}
 use Rattle.ordering.proofs.writing.write_ranks.Goals as goal
 use Rattle.ordering.proofs.writing.write_ranks.Goals.{else-i-rows, then-i-rows}
 use Rattle.ordering.specs.Writing.{ranked_by, reranked, with_rank, written}
@@ -44,4 +44,4 @@ returns c =
     let few : n ≤ length numbers = omega (arith, c.args.order.now.few) in
     let is : c.loop-p.rows ≡ written start (take n numbers) =
     whole c.loop-p.rows numbers n c.loop-p.p c.loop-p-test.false few ∙ c.loop-p.invariant ∙ ap (ranked_by start (take n numbers)) (sym (long numbers n few)) in
-    record { rows = is; writes = written_writes start (take n numbers) c.loop-p.rows is }
+    record { rows = is; writes = written_writes start (take n numbers) c.loop-p.rows is; ranges = written_ranges start (take n numbers) c.loop-p.rows is }
