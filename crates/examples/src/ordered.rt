@@ -38,8 +38,10 @@ fn worked_order(rt: HostRuntime) -> Result<(), Fail> {
         Ok(found) => {
             assert_eq!(rt; found.trials, 2);
             assert_eq!(rt; found.order.count, 2);
-            assert_eq!(rt; found.order.numbers[0], 1);
-            assert_eq!(rt; found.order.numbers[1], 2);
+            let lowest = found.order.numbers[0];
+            let next = found.order.numbers[1];
+            assert_eq!(rt; lowest, 1);
+            assert_eq!(rt; next, 2);
         }
         Err(_) => return Err(Fail::new("refused")),
     }
