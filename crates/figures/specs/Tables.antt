@@ -1,5 +1,5 @@
 -- The small tables that are worked through by hand.
-use Rattle.std.specs.Prelude.{ℕ, ◌≤◌, true, List, [], ◌∷◌}
+use Rattle.std.specs.Prelude.{ℕ, true, List, [], ◌∷◌}
 use Rattle.table.specs.Rows.{empty_row}
 use Rattle.table.specs.declared.board.Board.{Board}
 use Rattle.table.specs.declared.row.Row.{Row}

@@ -13,11 +13,10 @@ use Rattle.sheet.specs.Formed.{LawfulRow, WellFormed}
 use Rattle.std.proofs.lemmas.List.{get_or-set_other, get_or-set_same, length-set}
 use Rattle.std.proofs.lemmas.Bool.{and_from, and_parts, both_ways, cases_Bool, cases_eq, eq-eqb, leb-true}
 use Rattle.table.proofs.Firsts.{FirstBelow, first_is}
-use Rattle.table.proofs.Places.{on_core_from, on_core_is, on_core_task, task_below, task_from, task_holds}
-use Rattle.table.specs.Limits.{in_limits, suits}
-use Rattle.table.specs.Rows.{empty_row, is_task, on_core, past, row_at}
+use Rattle.table.proofs.Places.{on_core_is, on_core_task, task_below}
+use Rattle.table.specs.Limits.{suits}
+use Rattle.table.specs.Rows.{empty_row, on_core, past, row_at}
 use Rattle.table.specs.declared.board.Board.{Board}
-use Rattle.table.specs.declared.row.Figures.{Figures}
 use Rattle.table.specs.declared.row.Row.{Row}
 
 -- a rank that is free is no task's

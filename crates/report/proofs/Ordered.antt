@@ -1,6 +1,6 @@
 -- The calls of the program, a load and then an ordering of each core of the board, come to what is printed: the load
 -- answers first, and the orderings are made one after the other.
-use Rattle.std.proofs.Common.{◌≡◌, ℕ, zero, suc, ◌+◌, ◌≤◌, Bool, true, false, cond, ltb, List, [], ◌∷◌, ◌++◌, get_or, take, Some, None, Ok, Err, Option, Result, sym, refl, ap, ◌∙◌, add-one, arith, Bor}
+use Rattle.std.proofs.Common.{◌≡◌, ℕ, zero, suc, ◌+◌, ◌≤◌, Bool, true, false, cond, ltb, List, [], ◌∷◌, ◌++◌, get_or, take, Some, None, Ok, Err, Result, refl, ap, ◌∙◌, add-one, arith, Bor}
 use Rattle.bounds.specs.Bounds.{deadline_bound}
 use Rattle.ordering.specs.Search.{Outcome, ordered, refused}
 use Rattle.promise.specs.Calls.{after_all, answers_to}

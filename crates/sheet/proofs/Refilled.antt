@@ -2,7 +2,7 @@
 -- none is refused. Before number n the sheet has the rows of the tasks below n, and else empty rows. So the number is
 -- free; core and figures are lawful; and a task that has the rank on that core is one of the rows, with a smaller number,
 -- against the rule that no two share a rank.
-use Rattle.std.proofs.Common.{◌≡◌, ℕ, zero, suc, ◌+◌, ◌<◌, ◌≤◌, Bool, true, false, cond, not, ◌&&◌, eqb, ltb, leb, List, [], ◌∷◌, ◌++◌, map, length, set, is_some, Some, None, Option, sym, refl, ap, ◌∙◌, subst, ⊎_elim, arith}
+use Rattle.std.proofs.Common.{◌≡◌, ℕ, zero, suc, ◌<◌, ◌≤◌, Bool, true, false, cond, not, ◌&&◌, eqb, ltb, List, [], ◌∷◌, ◌++◌, length, set, is_some, Some, None, Option, sym, refl, ap, ◌∙◌, subst, ⊎_elim, arith}
 use Rattle.sheet.proofs.Opened.{fresh_empty, fresh_long}
 use Rattle.sheet.proofs.Tasked.{task_used, used_task}
 use Rattle.sheet.specs.Editing.{entered, entry_of, has_rank, rank_free, rank_holder, row_of}

@@ -7,7 +7,7 @@ use Rattle.sheet.proofs.Refilled.{Refilled, refilled}
 use Rattle.sheet.proofs.Taken.{going, stopped, taken_more, taken_none}
 use Rattle.sheet.specs.Editing.{entered, entry_of}
 use Rattle.sheet.specs.Formed.{WellFormed}
-use Rattle.sheet.specs.Loading.{Enters, Loaded, Step, block_steps, check, enter, filed, loaded, on_refusal, one_record, record_steps, steps, stop, taken}
+use Rattle.sheet.specs.Loading.{Enters, Loaded, Step, block_steps, check, enter, filed, loaded, on_refusal, one_record, steps, stop, taken}
 use Rattle.sheet.specs.Saving.{LoadsBack, SavesSo}
 use Rattle.sheet.specs.State.{State, fresh}
 use Rattle.std.proofs.lemmas.List.{length-map}
@@ -17,8 +17,8 @@ use Rattle.table.specs.declared.refusal.Refusal.{Refusal}
 use Rattle.table.specs.declared.row.Row.{Row}
 use Rattle.tablefile.specs.Numbers.{entry, numbers, records_for}
 use Rattle.tablefile.specs.Parts.{laid}
-use Rattle.tablefile.specs.Reading.{block_at, count_at, records_of}
-use Rattle.tablefile.specs.Refusing.{block_refusal, length_refusal}
+use Rattle.tablefile.specs.Reading.{block_at, count_at}
+use Rattle.tablefile.specs.Refusing.{block_refusal}
 use Rattle.tablefile.specs.Writing.{ComesBack, ReadsBack}
 
 module _ (bytes : List ℕ) (board : Board) where

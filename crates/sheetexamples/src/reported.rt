@@ -35,13 +35,13 @@ fn reporting(rt: HostRuntime) {
     assert!(rt; sheet.judge(1, &Deadline).is_ok());
     let closed = sheet.close();
     let text = b"cores 2 shared 1\ncore 0 loose\ncore 1 standing\n2 1 17 2\n";
-    let mut short = [7; 55];
+    let mut short = [7; 54];
     assert!(rt; report(&closed, &Deadline, &mut short).is_err());
     assert_eq!(rt; short[0], 7);
-    let mut out = [7; 57];
-    assert_eq!(rt; report(&closed, &Deadline, &mut out).ok(), Some(56));
+    let mut out = [7; 56];
+    assert_eq!(rt; report(&closed, &Deadline, &mut out).ok(), Some(55));
     assert!(rt; begins(&out, text));
-    assert_eq!(rt; out[56], 7);
+    assert_eq!(rt; out[55], 7);
 }
 
 // What was saved is loaded as the same rows.

@@ -1,12 +1,10 @@
-use Rattle.std.proofs.Common.{◌≡◌, ◌+◌, ◌-◌, true, List, ◌∷◌, ◌++◌, length, get_or, take, drop, sym, ap, ◌∙◌, arith}
+use Rattle.std.proofs.Common.{◌≡◌, ◌+◌, ◌-◌, List, get_or, sym, ap, ◌∙◌, arith}
 use Rattle.bounds.specs.Bounds.{deadline_bound}
-use Rattle.promise.specs.Calls.{after_all, answers_to}
 use Rattle.promise.specs.declared.call.Answer.TheVariants.{Loaded, Unasked}
 use Rattle.promise.specs.declared.call.Answer.{Answer}
-use Rattle.promise.specs.declared.call.Call.TheVariants.{Load}
-use Rattle.report.proofs.Ordered.{end_board, load_first, orders, prints_report, prints_stop, then_orders}
+use Rattle.report.proofs.Ordered.{end_board, load_first, prints_report, prints_stop, then_orders}
 use Rattle.report.proofs.analysing.analyse_for.Goals as goal
-use Rattle.report.specs.Program.{blank, ordered_cores, printed_for, stop_in}
+use Rattle.report.specs.Program.{blank, ordered_cores, stop_in}
 use Rattle.report.specs.Report.{report_text}
 use Rattle.sheet.specs.Loading.{after_load, load_answer}
 use Rattle.sheet.specs.State.{State}

@@ -1,4 +1,4 @@
-use Rattle.std.proofs.Common.{◌≡◌, ◌*◌, ◌++◌, ap, ◌∙◌, arith}
+use Rattle.std.proofs.Common.{◌≡◌, ◌++◌, ap, ◌∙◌, arith}
 use Rattle.report.proofs.Added.{added_more, added_none}
 use Rattle.report.proofs.composing.push_cores.Goals as goal
 use Rattle.report.specs.Lines.{core_line}

@@ -2,8 +2,8 @@ use Rattle.report.proofs.composing.push_number.Goals as goal
 use Rattle.report.proofs.composing.push_number.Goals.{else-is_task-via-else-is_task, else-is_task-via-then-is_task+else-n-rows}
 use Rattle.report.specs.Lines.{task_line}
 use Rattle.report.specs.Texts.{shown}
-use Rattle.std.proofs.lemmas.List.{append-nil, get_or_default}
-use Rattle.std.proofs.lemmas.Bool.{both_ways, cond-false, cond-true}
+use Rattle.std.proofs.lemmas.List.{append-nil}
+use Rattle.std.proofs.lemmas.Bool.{cond-false, cond-true}
 use Rattle.table.proofs.Places.{no_task_outside}
 use Rattle.table.specs.Ranks.{higher_ranked}
 use Rattle.table.specs.Rows.{is_task, row_at}

@@ -1,7 +1,7 @@
 use Rattle.report.proofs.reporting.report.Goals as goal
 use Rattle.report.specs.Report.{report_text}
 use Rattle.report.specs.Texts.{copied, copy_answer, shown}
-use Rattle.sheet.specs.State.{State, closed_state}
+use Rattle.sheet.specs.State.{closed_state}
 use Rattle.sheet.specs.declared.marks.Mark.{Mark}
 use Rattle.table.specs.declared.board.Board.{Board}
 use Rattle.table.specs.declared.row.Row.{Row}

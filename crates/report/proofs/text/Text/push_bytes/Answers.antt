@@ -1,4 +1,4 @@
-use Rattle.std.proofs.Common.{◌≡◌, ◌+◌, [], ◌∷◌, ◌++◌, length, get_or, take, sym, ap, ◌∙◌, arith}
+use Rattle.std.proofs.Common.{[], ◌∷◌, ◌++◌, get_or, take, sym, ap, ◌∙◌, arith}
 use Rattle.report.proofs.text.Text.push_bytes.Goals as goal
 use Rattle.report.specs.Texts.{shown}
 use Rattle.std.proofs.lemmas.List.{append_assoc, append-nil, take_all, take_more}
