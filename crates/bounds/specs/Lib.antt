@@ -12,9 +12,11 @@ pub mod Settling
 pub mod Loads
 pub mod Gathering
 pub mod Questions
-pub mod Tested
-pub mod Agreeing
+-- The laws of the two tests, with their proofs: an implementation cites them, so they stand here. No definition is among
+-- them but `RuleLaws`, which says what a rule has to keep.
 pub mod Adding
+pub mod Agreeing
 pub mod Fewer
 pub mod Rises
 pub mod Lawful
+pub mod Tested
