@@ -2,11 +2,11 @@
 #![tactic(auto)]
 
 ghost use Rattle.callfigures.specs.Figures.{all_hold, figures};
-ghost use Rattle.std.specs.Prelude.{◌≡◌, true};
+ghost use Rattle.std.specs.Prelude.{◌≡◌, true, length};
 
 // How many lines the table of calls has. The definitions compute every figure of it.
 pub fn worked_calls() -> usize
-    ensures answer { result ≡ 5 }
+    ensures answer { result ≡ length figures }
     ensures figures { all_hold figures ≡ true }
 {
     5
