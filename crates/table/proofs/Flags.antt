@@ -1,26 +1,18 @@
--- Sets as lists of flags. A loop that writes a set's flags one by one ends with that set; taking a number out clears its
--- flag; and a set is counted member by member.
-use Rattle.std.proofs.Common.{◌≡◌, ℕ, zero, suc, ◌+◌, ◌-◌, ◌<◌, ◌≤◌, Bool, true, false, not, ◌&&◌, eqb, ◌⊎◌, List, length, get_or, set, sym, refl, ap, ◌∙◌, subst, inl, inr, ⊎_elim, suc-add, zero-add, add-one, arith}
-use Rattle.std.proofs.lemmas.List.Edits.{fill_by_more}
-use Rattle.std.proofs.lemmas.List.{get_or_past, get_or-set_other, get_or-set_same, length-set}
+-- Sets as lists of flags. Flags made place by place from a set are that set; taking a number out clears its flag; and a
+-- set is counted member by member.
+use Rattle.std.proofs.Common.{◌≡◌, ℕ, zero, suc, ◌+◌, ◌-◌, ◌<◌, ◌≤◌, Bool, true, false, not, ◌&&◌, eqb, ◌⊎◌, List, [], ◌∷◌, ◌++◌, map, filter, length, get_or, set, cond, sym, refl, ap, ◌∙◌, subst, inl, inr, ⊎_elim, suc-add, zero-add, add-one, arith}
+use Rattle.std.proofs.lemmas.List.FromFn.{filter_of_map_range_with_len_more, get_or-map-range_with_len, length-map-range_with_len}
+use Rattle.std.proofs.lemmas.List.{get_or_past, length-append, get_or-set_other, get_or-set_same, set_past}
 use Rattle.std.proofs.lemmas.Bool.{and_parts, cases_eq, cases_lt, eq-eqb, ne_eqb}
 use Rattle.table.specs.Sets.{Set, Within, count_below, without}
+use Rattle.std.specs.List.{range_with_len}
 use mathlib.Core.Path.{fun_ext}
 
--- the flags below j are those of a set
-abbrev pub Flagged : Set → ℕ → List Bool → Type 0
-Flagged f j flags = (length flags ≡ 64) × ((k : ℕ) → k < j → get_or flags k false ≡ f k)
-
-pub flagged_more : (f : Set) (j : ℕ) (flags : List Bool) (b : Bool) → j < 64 → b ≡ f j → Flagged f j flags → Flagged f (j + 1) (set flags j b)
-flagged_more f j flags b l e h = (
-  length-set flags j b ∙ h.0,
-  subst (λ x. (k : ℕ) → k < j + 1 → get_or (set flags j x) k false ≡ f k) (sym e) (fill_by_more f flags j false (omega (arith, h.0)) h.1),
-)
-
-pub flagged_all : (f : Set) (j : ℕ) (flags : List Bool) → 64 ≤ j → ((k : ℕ) → 64 ≤ k → f k ≡ false) → Flagged f j flags → (λ k. get_or flags k false) ≡ f
-flagged_all f j flags l past h = fun_ext (λ k. ⊎_elim
-    (λ below. h.1 k (omega arith))
-    (λ out. get_or_past flags k false (omega (arith, h.0)) ∙ sym (past k out))
+-- flags that were made place by place from a set of numbers below 64
+pub flags_of : (f : Set) (flags : List Bool) → ((k : ℕ) → 64 ≤ k → f k ≡ false) → flags ≡ map f (range_with_len 0 64) → (λ k. get_or flags k false) ≡ f
+flags_of f flags past e = fun_ext (λ k. ⊎_elim
+    (λ below. ap (λ xs. get_or xs k false) e ∙ get_or-map-range_with_len f 0 64 k k false below (zero-add k))
+    (λ out. get_or_past flags k false (omega (arith, ap length e ∙ length-map-range_with_len f 0 64)) ∙ sym (past k out))
     (cases_lt k 64))
 
 -- one number less
@@ -45,21 +37,24 @@ pub without_within : (U : Set) (k : ℕ) → Within (without U k) U
 unfolding without
 without_within U k j h = (and_parts (U j) (not (eqb j k)) h).0
 
-pub flag_cleared : (flags : List Bool) (k : ℕ) → k < length flags → (λ j. get_or (set flags k false) j false) ≡ without (λ j. get_or flags j false) k
-flag_cleared flags k l = fun_ext go
-  where
-    go : (j : ℕ) → get_or (set flags k false) j false ≡ without (λ i. get_or flags i false) k j
-    go j = ⊎_elim
-        (λ e. subst (λ x. get_or (set flags k false) x false ≡ without (λ i. get_or flags i false) k x) (sym e) (get_or-set_same flags k false false l ∙ sym (without_at (λ i. get_or flags i false) k)))
-        (λ n. get_or-set_other flags k j false false n ∙ sym (without_other (λ i. get_or flags i false) k j n))
-        (cases_eq j k)
-
 -- a number that is not there is not taken out
-pub without_none : (U : Set) (k : ℕ) → U k ≡ false → U ≡ without U k
+without_none : (U : Set) (k : ℕ) → U k ≡ false → U ≡ without U k
 without_none U k e = fun_ext (λ j. ⊎_elim
     (λ same. ap U same ∙ e ∙ sym (ap (without U k) same ∙ without_at U k))
     (λ other. sym (without_other U k j other))
     (cases_eq j k))
+
+pub flag_cleared : (flags : List Bool) (k : ℕ) → (λ j. get_or (set flags k false) j false) ≡ without (λ j. get_or flags j false) k
+flag_cleared flags k = ⊎_elim
+    (λ l. fun_ext (go l))
+    (λ out. ap (λ xs j. get_or xs j false) (set_past flags k false out) ∙ without_none (λ j. get_or flags j false) k (get_or_past flags k false out))
+    (cases_lt k (length flags))
+  where
+    go : k < length flags → (j : ℕ) → get_or (set flags k false) j false ≡ without (λ i. get_or flags i false) k j
+    go l j = ⊎_elim
+        (λ e. subst (λ x. get_or (set flags k false) x false ≡ without (λ i. get_or flags i false) k x) (sym e) (get_or-set_same flags k false false l ∙ sym (without_at (λ i. get_or flags i false) k)))
+        (λ n. get_or-set_other flags k j false false n ∙ sym (without_other (λ i. get_or flags i false) k j n))
+        (cases_eq j k)
 
 -- counting
 
@@ -109,6 +104,16 @@ count_same U V (suc n) h = let e = h n (omega arith) in let r = count_same U V n
 
 count_step : (U V : Set) (n : ℕ) → U n ≡ V n → count_below U n ≡ count_below V n + 1 → count_below U (suc n) ≡ count_below V (suc n) + 1
 count_step U V n e r = by_member U n (count_below U (suc n) ≡ count_below V (suc n) + 1) (λ h. omega (arith, count_in U n h, count_in V n (sym e ∙ h))) (λ h. omega (arith, count_out U n h, count_out V n (sym e ∙ h)))
+
+-- to count is to list them, and to take the length
+pub count_listed : (U : Set) (n : ℕ) → length (filter U (map (λ k. k) (range_with_len 0 n))) ≡ count_below U n
+count_listed U zero = sym (count_zero U)
+count_listed U (suc n) =
+    let xs = filter U (map (λ k. k) (range_with_len 0 n)) in
+    let more = ap (λ m. length (filter U (map (λ k. k) (range_with_len 0 m)))) (sym (add-one n)) ∙ ap length (filter_of_map_range_with_len_more U (λ k. k) 0 n n (zero-add n)) in
+    by_member U n (length (filter U (map (λ k. k) (range_with_len 0 (suc n)))) ≡ count_below U (suc n))
+    (λ e. omega (arith, more ∙ ap (λ b. length (xs ++ cond b (n ∷ []) [])) e ∙ length-append xs (n ∷ []), count_listed U n, count_in U n e))
+    (λ e. omega (arith, more ∙ ap (λ b. length (xs ++ cond b (n ∷ []) [])) e ∙ length-append xs [], count_listed U n, count_out U n e))
 
 -- taking a member out makes one less
 pub count_without : (U : Set) (k n : ℕ) → k < n → U k ≡ true → count_below U n ≡ count_below (without U k) n + 1

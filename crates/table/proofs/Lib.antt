@@ -1,7 +1,9 @@
 pub mod Boarded
 pub mod Places
 pub mod Limited
+pub mod Lacking
 pub mod Flags
+pub mod FromFn
 pub mod Firsts
 pub mod Slots
 pub mod Plains

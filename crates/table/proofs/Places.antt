@@ -89,8 +89,8 @@ unfolding higher_ranked
 not_higher rows i j h = and_left (on_core rows (row_at rows i).core j) (ltb (row_at rows j).rank (row_at rows i).rank) (off_core rows (row_at rows i).core j h)
 
 -- rank 0, which is read past the end, is below no rank
-pub none_above_past : (rows : List Row) (i j : ℕ) → length rows ≤ i → higher_ranked rows i j ≡ false
+pub none_above_past : (rows : List Row) (i j : ℕ) → row_at rows i ≡ past → higher_ranked rows i j ≡ false
 unfolding higher_ranked
 none_above_past rows i j h =
     and_right (on_core rows (row_at rows i).core j) (ltb (row_at rows j).rank (row_at rows i).rank)
-    (ap (λ (row : Row). ltb (row_at rows j).rank row.rank) (row_past rows i h) ∙ le-ltb (row_at rows j).rank 0 (omega arith))
+    (ap (λ (row : Row). ltb (row_at rows j).rank row.rank) h ∙ le-ltb (row_at rows j).rank 0 (omega arith))

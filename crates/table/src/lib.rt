@@ -17,3 +17,5 @@ pub mod set;
 pub mod ranks;
 // What a test is: its meaning and its laws.
 pub mod testing;
+// A test with the board and the rows that it is asked about.
+pub mod asking;

@@ -7,28 +7,24 @@ ghost use Rattle.std.specs.Prelude.{◌≡◌};
 use crate::row::Row;
 use crate::set::TaskSet;
 use crate::tasks::NUMBERS;
+use std::array;
 
 // The rank in the row of a number; 0, which is no rank, past the end of the list.
 pub fn rank_at(rows: &[Row], number: usize) -> u8
     ensures answer { result ≡ (row_at rows.now number).rank }
 {
-    if number < rows.len() {
-        rows[number].rank
-    } else {
-        0
-    }
+    rows.get(number).map_or(0, |row| row.rank)
 }
 
 // Whether `other` is a task of the core of `number` with a higher rank.
 fn is_higher(rows: &[Row], number: usize, other: usize) -> bool
     ensures { result ≡ higher_ranked rows.now number other }
 {
-    if number < rows.len() && other < rows.len() && other < NUMBERS {
-        let low = rows[number];
-        let high = rows[other];
-        high.holds_task() & (high.core == low.core) & (high.rank < low.rank)
-    } else {
-        false
+    match (rows.get(number), rows.get(other)) {
+        (Some(low), Some(high)) => {
+            (other < NUMBERS) & high.holds_task() & (high.core == low.core) & (high.rank < low.rank)
+        }
+        _ => false,
     }
 }
 
@@ -36,11 +32,9 @@ fn is_higher(rows: &[Row], number: usize, other: usize) -> bool
 fn is_on_core(rows: &[Row], core: u8, number: usize) -> bool
     ensures { result ≡ on_core rows.now core number }
 {
-    if number < rows.len() && number < NUMBERS {
-        let row = rows[number];
-        row.holds_task() & (row.core == core)
-    } else {
-        false
+    match rows.get(number) {
+        Some(row) => (number < NUMBERS) & row.holds_task() & (row.core == core),
+        None => false,
     }
 }
 
@@ -49,21 +43,17 @@ impl TaskSet {
     pub fn of_core(rows: &[Row], core: u8) -> TaskSet
         ensures answer { members result ≡ on_core rows.now core }
     {
-        let mut flags = [false; 64];
-        for k in 0..NUMBERS {
-            flags[k] = is_on_core(rows, core, k);
+        TaskSet {
+            flags: array::from_fn(|number| is_on_core(rows, core, number)),
         }
-        TaskSet { flags }
     }
 
     // The tasks that the present ranks put above a number.
     pub fn higher_ranked(rows: &[Row], number: usize) -> TaskSet
         ensures answer { members result ≡ higher_ranked rows.now number }
     {
-        let mut flags = [false; 64];
-        for j in 0..NUMBERS {
-            flags[j] = is_higher(rows, number, j);
+        TaskSet {
+            flags: array::from_fn(|other| is_higher(rows, number, other)),
         }
-        TaskSet { flags }
     }
 }

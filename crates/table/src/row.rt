@@ -9,7 +9,7 @@ use crate::board::Board;
 pub const MOST: u32 = 10_000_000;
 
 // What an amendment replaces. All times are whole microseconds.
-#[derive(Clone, Copy)]
+#[derive(Clone, Copy, PartialEq, Eq, Debug)]
 pub struct Figures {
     // C: execution time, running alone.
     pub cost: u32,
@@ -24,7 +24,7 @@ pub struct Figures {
 }
 
 // A row's number is its place in the list. An unused row is empty.
-#[derive(Clone, Copy)]
+#[derive(Clone, Copy, PartialEq, Eq, Debug)]
 pub struct Row {
     pub used: bool,
     pub core: u8,
@@ -58,17 +58,14 @@ impl Row {
 fn are_small(xs: &[u32; 4]) -> bool
     ensures { result ≡ all_small xs.now }
 {
-    (xs[0] <= MOST) & (xs[1] <= MOST) & (xs[2] <= MOST) & (xs[3] <= MOST)
+    xs.iter().all(|x| *x <= MOST)
 }
 
 // Whether it is 0 for each resource that a board with so many lacks.
 fn are_had(resources: u8, xs: &[u32; 4]) -> bool
     ensures { result ≡ all_had resources xs.now }
 {
-    ((0 < resources) | (xs[0] == 0))
-        & ((1 < resources) | (xs[1] == 0))
-        & ((2 < resources) | (xs[2] == 0))
-        & ((3 < resources) | (xs[3] == 0))
+    xs.iter().skip(resources as usize).all(|x| *x == 0)
 }
 
 impl Figures {

@@ -6,7 +6,7 @@ use crate::row::Figures;
 
 mod making;
 
-#[derive(Clone, Copy)]
+#[derive(Clone, Copy, PartialEq, Eq, Debug)]
 pub struct Task {
     pub core: u8,
     pub figures: Figures,

@@ -5,11 +5,12 @@ ghost use Rattle.std.specs.Prelude.{◌≡◌};
 
 use crate::row::Row;
 use crate::task::Task;
+use std::array;
 
 // How many numbers there are: rows from this place on are no tasks.
 pub const NUMBERS: usize = 64;
 
-#[derive(Clone, Copy)]
+#[derive(Clone, Copy, PartialEq, Eq, Debug)]
 pub struct Tasks {
     pub slots: [Option<Task>; 64],
 }
@@ -25,43 +26,31 @@ pub fn capacity_of(rows: &[Row]) -> usize
 pub fn is_task(rows: &[Row], number: usize) -> bool
     ensures answer { result ≡ is_task rows.now number }
 {
-    if number < rows.len() && number < NUMBERS {
-        rows[number].holds_task()
-    } else {
-        false
+    match rows.get(number) {
+        Some(row) => (number < NUMBERS) & row.holds_task(),
+        None => false,
     }
 }
 
 fn task_at(rows: &[Row], number: usize) -> Option<Task>
     ensures { row_of result ≡ plain_row (row_at rows.now number) }
 {
-    if number < rows.len() {
-        Task::of(&rows[number])
-    } else {
-        None
-    }
+    Task::of(rows.get(number)?)
 }
 
 impl Tasks {
     pub fn of(rows: &[Row]) -> Tasks
         ensures answer { listed result ≡ plain rows.now }
     {
-        let mut slots = [None; 64];
-        for k in 0..NUMBERS {
-            slots[k] = task_at(rows, k);
+        Tasks {
+            slots: array::from_fn(|number| task_at(rows, number)),
         }
-        Tasks { slots }
     }
 
     // The task of a number, if it has one.
     pub fn at(&self, number: usize) -> Option<Task>
         ensures answer { result ≡ slot self.now number }
     {
-        if number < NUMBERS {
-            let slot = &self.slots[number];
-            *slot
-        } else {
-            None
-        }
+        self.slots.get(number).copied().flatten()
     }
 }

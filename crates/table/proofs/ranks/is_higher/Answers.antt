@@ -1,22 +1,24 @@
-use Rattle.std.proofs.lemmas.Bool.{lt-ltb}
-use Rattle.table.proofs.Places.{no_task_outside, no_task_past, none_above_past, not_higher}
+use Rattle.table.proofs.Places.{no_task_from, none_above_past, not_higher}
 use Rattle.table.proofs.ranks.is_higher.Goals as goal
-use Rattle.table.proofs.ranks.is_higher.Goals.{else-number-rows-via-else-number-rows, else-number-rows-via-then-number-rows+else-other-rows, else-number-rows-via-then-number-rows+then-other-rows+else-other-lt-NUMBERS}
 use Rattle.table.specs.Ranks.{higher_ranked}
-use Rattle.table.specs.Rows.{is_task, on_core}
-use Rattle.std.proofs.Common.{sym}
+use Rattle.table.specs.Rows.{holds_task, is_task, on_core, past}
+use Rattle.std.proofs.Common.{sym, ap, arith}
 
-pub returns-then-other-lt-NUMBERS : goal.returns-then-other-lt-NUMBERS
+pub returns-in-Some-Some : goal.returns-in-Some-Some
 unfolding higher_ranked on_core is_task
-returns-then-other-lt-NUMBERS c = rw (lt-ltb c.args.other 64 c.if-other-lt-NUMBERS.true, c.holds_task.ensures.answer)
+returns-in-Some-Some c =
+    let low = c.in-Some-Some.ensures.lookup.4 (omega arith) past in
+    let high = c.in-Some-Some.ensures'.lookup.4 (omega arith) past in
+    cc
 
-pub returns-else-number-rows : goal.returns-else-number-rows
-returns-else-number-rows c =
+pub returns-in_default : goal.returns-in_default
+returns-in_default c =
+    let rows = c.args.rows.now in
+    let j = c.args.other in
+    sym (not_higher rows c.args.number j (no_task_from rows j (ap holds_task (sym (c.in_default.ensures'.lookup.4 (omega arith) past)))))
+
+pub returns-in_default-2 : goal.returns-in_default-2
+returns-in_default-2 c =
     let rows = c.args.rows.now in
     let i = c.args.number in
-    let j = c.args.other in
-    elim c.else-number-rows.branch [
-      | else-number-rows-via-then-number-rows+then-other-rows+else-other-lt-NUMBERS w ↦ sym (not_higher rows i j (no_task_past rows j w.if-other-lt-NUMBERS.false))
-      | else-number-rows-via-then-number-rows+else-other-rows w ↦ sym (not_higher rows i j (no_task_outside rows j w.if-other-rows.false))
-      | else-number-rows-via-else-number-rows w ↦ sym (none_above_past rows i j w.if-number-rows.false)
-    ]
+    sym (none_above_past rows i c.args.other (sym (c.in_default.ensures.lookup.4 (omega arith) past)))

@@ -1,19 +1,11 @@
-use Rattle.std.proofs.lemmas.Bool.{lt-ltb}
-use Rattle.table.proofs.Places.{no_task_outside, no_task_past}
+use Rattle.table.proofs.Places.{no_task_from}
 use Rattle.table.proofs.tasks.is_task.Goals as goal
-use Rattle.table.proofs.tasks.is_task.Goals.{else-number-rows-via-else-number-rows, else-number-rows-via-then-number-rows+else-number-lt-NUMBERS}
-use Rattle.table.specs.Rows.{is_task}
-use Rattle.std.proofs.Common.{sym}
+use Rattle.table.specs.Rows.{holds_task, is_task, past}
+use Rattle.std.proofs.Common.{sym, ap, arith}
 
-pub returns-then-number-lt-NUMBERS : goal.returns-then-number-lt-NUMBERS
+pub returns-in-Some : goal.returns-in-Some
 unfolding is_task
-returns-then-number-lt-NUMBERS c = record { answer = rw (lt-ltb c.args.number 64 c.if-number-lt-NUMBERS.true, c.holds_task.ensures.answer) }
+returns-in-Some c = let row = c.in-Some.ensures.lookup.4 (omega arith) past in record { answer = cc }
 
-pub returns-else-number-rows : goal.returns-else-number-rows
-returns-else-number-rows c =
-    let rows = c.args.rows.now in
-    let k = c.args.number in
-    elim c.else-number-rows.branch [
-      | else-number-rows-via-then-number-rows+else-number-lt-NUMBERS w ↦ record { answer = sym (no_task_past rows k w.if-number-lt-NUMBERS.false) }
-      | else-number-rows-via-else-number-rows w ↦ record { answer = sym (no_task_outside rows k w.if-number-rows.false) }
-    ]
+pub returns-in-None : goal.returns-in-None
+returns-in-None c = record { answer = sym (no_task_from c.args.rows.now c.args.number (ap holds_task (sym (c.in-None.ensures.lookup.4 (omega arith) past)))) }
