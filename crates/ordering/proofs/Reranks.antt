@@ -6,7 +6,7 @@ use Rattle.ordering.proofs.Presents.{present_bounded}
 use Rattle.ordering.specs.Orders.{Answers, Distinct, FirstOrder, OrderOf, named}
 use Rattle.ordering.specs.Present.{Falls, PresentOrder}
 use Rattle.ordering.specs.Search.{DecidesOrder, Outcome, ordered, refused}
-use Rattle.ordering.specs.Writing.{OrdersCore, Ranges, RanksFirst, Writes, after_search, ranked_by, reranked, with_rank, written}
+use Rattle.ordering.specs.Writing.{OrdersCore, RanksFirst, Writes, after_search, ranked_by, reranked, with_rank, written}
 use Rattle.std.proofs.lemmas.List.{drop-set-lt, get_or-set_other, get_or-set_same, length-set, set_past}
 use Rattle.std.proofs.lemmas.Bool.{both_ways, cases_Bool, cases_eq, cases_lt, eqb-false, or_parts}
 use Rattle.std.specs.List.{range_with_len}
@@ -114,14 +114,8 @@ written_writes rows order after e =
       same_length = length_kept order rows (length order);
       but_ranks = row_kept order rows (length order);
       others = outside order rows (length order);
-      present = λ core o. present core order rows o;
-    })
-
-pub written_ranges : (rows : List Row) (order : List ℕ) (after : List Row) → after ≡ written rows order → Ranges rows order after
-written_ranges rows order after e =
-    subst (Ranges rows order) (sym e)
-    (record {
       rest = rest_kept order rows (length order);
+      present = λ core o. present core order rows o;
       ranks = λ core o j h. (
         at_least core order rows (length order) j (λ k e. sym (o.each k) ∙ e) (omega arith) h,
         at_most core order rows (length order) j (λ k e. sym (o.each k) ∙ e) h,

@@ -1,5 +1,5 @@
 -- The code's answers as outcomes of the search.
-use Rattle.std.specs.Prelude.{ℕ, List, take, Ok, Err, Result}
+use Rattle.std.specs.Prelude.{ℕ, List, Ok, Err, Result}
 use Rattle.ordering.specs.Search.{Outcome, ordered, refused}
 use Rattle.ordering.specs.declared.order.Found.{Found}
 use Rattle.ordering.specs.declared.order.NoOrder.{NoOrder}
@@ -7,7 +7,7 @@ use Rattle.ordering.specs.declared.order.Order.{Order}
 
 -- the numbers of an order, from the lowest place up
 abbrev pub numbers_of : Order → List ℕ
-numbers_of order = take order.count order.numbers
+numbers_of order = order.numbers.items
 
 abbrev pub outcome_of : Result Found NoOrder → Outcome
 outcome_of (Ok found) = ordered (numbers_of found.order) found.trials

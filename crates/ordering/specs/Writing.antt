@@ -23,18 +23,14 @@ ranked_by rows (i ∷ is) r = ranked_by (reranked rows i r) is (r - 1)
 abbrev pub written : List Row → List ℕ → List Row
 written rows order = ranked_by rows order (length order)
 
--- in words: nothing but the ranks of the tasks named has changed, and if those are the tasks of a core, each once, then
--- the order is its present order
+-- in words: nothing but the ranks of the tasks named has changed, and nothing from a place on that none of them reaches;
+-- and if those are the tasks of a core, each once, then the order is its present order, and its ranks are from 1 to n
 pub record Writes (rows : List Row) (order : List ℕ) (after : List Row) : Type 0 where
   pub same_length : length after ≡ length rows
   pub but_ranks : (j : ℕ) → with_rank (row_at after j) 1 ≡ with_rank (row_at rows j) 1
   pub others : (j : ℕ) → named order j ≡ false → row_at after j ≡ row_at rows j
-  pub present : (core : ℕ) → OrderOf (on_core rows core) order → PresentOrder after core order
-
--- in words: nothing has changed from a place on that no task named reaches; and if those named are the tasks of a core,
--- each once, then their ranks are from 1 to n
-pub record Ranges (rows : List Row) (order : List ℕ) (after : List Row) : Type 0 where
   pub rest : (n : ℕ) → ((j : ℕ) → named order j ≡ true → j < n) → drop n after ≡ drop n rows
+  pub present : (core : ℕ) → OrderOf (on_core rows core) order → PresentOrder after core order
   pub ranks : (core : ℕ) → OrderOf (on_core rows core) order → (j : ℕ) → named order j ≡ true → (1 ≤ (row_at after j).rank) × ((row_at after j).rank ≤ length order)
 
 -- the rows after a search: the ranks of an order that was found, or as they were

@@ -6,6 +6,8 @@ ghost use Rattle.table.specs.Rows.{on_core};
 ghost use Rattle.table.specs.Sets.{members};
 
 use crate::order::{Found, NoOrder, Order};
+use arrayvec::ArrayVec;
+use table::asking::Asking;
 use table::board::Board;
 use table::row::Row;
 use table::set::TaskSet;
@@ -20,16 +22,15 @@ struct Taker {
 }
 
 // The tasks that are left are tried by rising number, each with the others above it.
-fn find_taker<T: Test>(test: &T, prepared: &T::Prepared, tasks: &TaskSet) -> Taker
-    ensures number { result.number ≡ first_taker (T.Test.answers test.now prepared.now) (members tasks.now) }
+fn find_taker<T: Test>(asking: &Asking<'_, T>, tasks: &TaskSet) -> Taker
+    ensures number { result.number ≡ first_taker (T.Test.meaning asking.now.test.now asking.now.board asking.now.rows.now) (members tasks.now) }
     ensures trials { result.trials ≡ tried (members tasks.now) result.number }
 {
     let mut trials: u32 = 0;
     for k in 0..NUMBERS {
         if tasks.has(k) {
             trials += 1;
-            let others = tasks.without(k);
-            if test.ask(prepared, k, &others).is_some() {
+            if asking.ask(k, &tasks.without(k)).is_some() {
                 return Taker {
                     number: Some(k),
                     trials,
@@ -44,31 +45,27 @@ fn find_taker<T: Test>(test: &T, prepared: &T::Prepared, tasks: &TaskSet) -> Tak
 }
 
 // Places are filled from the lowest.
-fn fill_places<T: Test>(test: &T, prepared: &T::Prepared, tasks: TaskSet) -> Result<Found, NoOrder>
-    ensures { outcome_of result ≡ search_for (T.Test.answers test.now prepared.now) (members tasks) }
+fn fill_places<T: Test>(asking: &Asking<'_, T>, tasks: TaskSet) -> Result<Found, NoOrder>
+    ensures { outcome_of result ≡ search_for (T.Test.meaning asking.now.test.now asking.now.board asking.now.rows.now) (members tasks) }
 {
     let mut left = tasks;
     let count = left.size();
-    let mut numbers = [0u8; 64];
-    let mut trials: u32 = 0;
+    let mut numbers = ArrayVec::new();
+    let mut trials = 0;
     for placed in 0..count {
-        let taker = find_taker(test, prepared, &left);
+        let taker = find_taker(asking, &left);
         trials += taker.trials;
-        match taker.number {
-            Some(k) => {
-                numbers[placed] = k as u8;
-                left = left.without(k);
-            }
-            None => {
-                return Err(NoOrder {
-                    trials,
-                    unplaced: count - placed,
-                });
-            }
-        }
+        let Some(number) = taker.number else {
+            return Err(NoOrder {
+                trials,
+                unplaced: count - placed,
+            });
+        };
+        numbers.push(number);
+        left = left.without(number);
     }
     Ok(Found {
-        order: Order { numbers, count },
+        order: Order { numbers },
         trials,
     })
 }
@@ -85,7 +82,6 @@ pub fn find_order<T: Test>(
     ensures decides { DecidesOrder (T.Test.meaning test.now board.now rows.now) (on_core rows.now core) (outcome_of result) }
     ensures trials { FewTrials (on_core rows.now core) (outcome_of result) }
 {
-    let prepared = test.prepare(board, rows);
-    let tasks = TaskSet::of_core(rows, core);
-    fill_places(test, &prepared, tasks)
+    let asking = Asking::new(test, board, rows);
+    fill_places(&asking, TaskSet::of_core(rows, core))
 }

@@ -2,7 +2,7 @@
 ghost use Rattle.std.specs.Prelude.{◌≡◌, ℕ};
 ghost use Rattle.ordering.specs.Search.{FewTrials, search_for};
 ghost use Rattle.ordering.specs.Told.{numbers_of, outcome_of};
-ghost use Rattle.ordering.specs.Writing.{OrdersCore, Ranges, Writes, after_search, written};
+ghost use Rattle.ordering.specs.Writing.{OrdersCore, Writes, after_search, written};
 ghost use Rattle.table.specs.Rows.{on_core};
 
 use crate::order::{Found, NoOrder, Order};
@@ -15,17 +15,11 @@ use table::testing::Test;
 pub fn write_ranks(rows: &mut [Row], order: &Order)
     ensures rows { rows.new ≡ written rows.old (numbers_of order.now) }
     ensures writes { Writes rows.old (numbers_of order.now) rows.new }
-    ensures ranges { Ranges rows.old (numbers_of order.now) rows.new }
 {
-    let n = order.count;
-    for p in 0..n {
-        let i = order.numbers[p] as usize;
-        if i < rows.len() {
-            let old = rows[i];
-            rows[i] = Row {
-                rank: (n - p) as u8,
-                ..old
-            };
+    let n = order.numbers.len();
+    for (place, number) in order.numbers.as_slice().iter().enumerate() {
+        if *number < rows.len() {
+            rows[*number].rank = (n - place) as u8;
         }
     }
 }

@@ -1,7 +1,6 @@
 -- Rows stay well-formed, as many as they were, and the same from place 64 on, whatever calls are made.
 use Rattle.std.proofs.Common.{◌≡◌, ℕ, ◌<◌, Bool, true, false, List, length, drop, set, sym, refl, ◌∙◌}
 use Rattle.ordering.proofs.Lawful.{decided}
-use Rattle.ordering.proofs.Reranks.{written_ranges}
 use Rattle.ordering.specs.Search.{ordered}
 use Rattle.ordering.specs.Writing.{written}
 use Rattle.promise.proofs.Accepted.{amend_tells, entry_tells, withdraw_tells}
@@ -76,12 +75,11 @@ module _ (board : Board) (start : List Row) where
       ordering = λ s core xs t inside found h.
           let first = ranks_first m w laws s core xs t found in
           let o = (decided w m laws s.board s.rows core (ordered xs t) (sym found)).order in
-          let ranges = written_ranges s.rows xs (written s.rows xs) refl in
           record {
             same = h.same;
-            well = ranked_formed s.board s.rows core xs (written s.rows xs) first.writes ranges o h.well;
+            well = ranked_formed s.board s.rows core xs (written s.rows xs) first.writes o h.well;
             long = first.writes.same_length ∙ h.long;
-            rest = ranges.rest 64 (λ j e. task_below s.rows j (on_core_task s.rows core j (sym (o.each j) ∙ e))) ∙ h.rest;
+            rest = first.writes.rest 64 (λ j e. task_below s.rows j (on_core_task s.rows core j (sym (o.each j) ∙ e))) ∙ h.rest;
           };
     }
 

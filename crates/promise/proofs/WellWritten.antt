@@ -6,7 +6,7 @@ use Rattle.ordering.proofs.Listing.{named_either}
 use Rattle.ordering.proofs.Sizes.{order_short}
 use Rattle.ordering.specs.Orders.{OrderOf, named}
 use Rattle.ordering.specs.Present.{Falls}
-use Rattle.ordering.specs.Writing.{Ranges, Writes}
+use Rattle.ordering.specs.Writing.{Writes}
 use Rattle.sheet.proofs.Tasked.{task_used, used_on}
 use Rattle.sheet.specs.Editing.{has_rank, rank_free, rank_holder}
 use Rattle.sheet.specs.Formed.{LawfulRow, WellFormed}
@@ -100,7 +100,7 @@ falls_apart rows (x ∷ up) (f, fs) i j a b e =
     (cases_Bool (named up j)))
     (cases_Bool (named up i))
 
-module _ (board : Board) (rows : List Row) (core : ℕ) (xs : List ℕ) (after : List Row) (writes : Writes rows xs after) (ranges : Ranges rows xs after) (o : OrderOf (on_core rows core) xs) (h : WellFormed board rows) where
+module _ (board : Board) (rows : List Row) (core : ℕ) (xs : List ℕ) (after : List Row) (writes : Writes rows xs after) (o : OrderOf (on_core rows core) xs) (h : WellFormed board rows) where
   used_kept : (i : ℕ) → (row_at after i).used ≡ (row_at rows i).used
   used_kept i = ap used_of (writes.but_ranks i)
 
@@ -112,7 +112,7 @@ module _ (board : Board) (rows : List Row) (core : ℕ) (xs : List ℕ) (after :
   ranked_lawful i old =
       ⊎_elim
       (λ e.
-      let rank = ranges.ranks core o i e in
+      let rank = writes.ranks core o i e in
       record {
         core_below = subst (λ c. c < board.cores) (sym (core_kept i)) old.core_below;
         rank_from = rank.0;

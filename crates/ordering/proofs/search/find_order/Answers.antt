@@ -4,8 +4,7 @@ use Rattle.ordering.specs.Orders.{Answers}
 use Rattle.ordering.specs.Search.{search_for}
 use Rattle.ordering.specs.Told.{outcome_of}
 use Rattle.table.specs.Rows.{on_core}
-use Rattle.table.specs.Sets.{members}
-use Rattle.std.proofs.Common.{◌≡◌, ap, ◌∙◌}
+use Rattle.std.proofs.Common.{◌≡◌}
 
 pub returns : goal.returns
 returns g c =
@@ -13,9 +12,12 @@ returns g c =
     let rows = c.args.rows.now in
     let ask : Answers = g.T.Test.meaning c.args.test.now board rows in
     let answer : outcome_of c.fill_places.result ≡ search_for ask (on_core rows c.args.core) =
-    c.fill_places.ensures
-    ∙ ap (λ a. search_for a (members c.of_core-tasks.result)) c.prepare-prepared.ensures.answer
-    ∙ ap (search_for ask) c.of_core-tasks.ensures.answer in
+    let test = c.new-asking.ensures.test in
+    let same = c.new-asking.ensures.board in
+    let asked = c.new-asking.ensures.rows in
+    let tasks = c.of_core.ensures.answer in
+    let told = c.fill_places.ensures in
+    cc in
     record {
       answer = answer;
       decides = decided _ _ (g.met.T.Test.laws c.args.test.now) board rows c.args.core _ answer;

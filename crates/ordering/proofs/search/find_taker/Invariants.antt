@@ -7,6 +7,6 @@ use Rattle.table.specs.Sets.{count_below, members}
 -- no task below k can take the place, and each of them was tried
 abbrev pub invariant-loop-k : goal.invariant-loop-k
 invariant-loop-k g l =
-    (first_that (can_take (g.T.Test.answers l.test l.prepared) (members l.tasks)) l.k ≡ None)
+    (first_that (can_take (g.T.Test.meaning l.asking.test.now l.asking.board l.asking.rows.now) (members l.tasks)) l.k ≡ None)
     × (l.trials ≡ count_below (members l.tasks) l.k)
     × (l.trials ≤ l.k)
