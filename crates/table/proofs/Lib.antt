@@ -5,3 +5,4 @@ pub mod Flags
 pub mod Firsts
 pub mod Slots
 pub mod Plains
+pub mod Refused

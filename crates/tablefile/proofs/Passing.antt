@@ -1,42 +1,20 @@
 -- Every block that is written passes the checks, and its records stand where they are read.
-use Rattle.std.proofs.Common.{◌≡◌, ℕ, zero, suc, ◌+◌, ◌-◌, ◌*◌, ◌<◌, ◌≤◌, true, List, ◌++◌, length, get_or, take, drop, None, sym, refl, ap, ◌∙◌, mul-zero, mul-one, mul-add, add-one, arith}
-use Rattle.std.proofs.lemmas.List.{append_assoc, append-nil, drop_at, drop-drop, replicate-append-replicate, take_at}
+use Rattle.std.proofs.Common.{◌≡◌, ℕ, ◌+◌, ◌-◌, ◌*◌, ◌<◌, ◌≤◌, true, List, ◌++◌, length, get_or, take, drop, None, sym, refl, ap, ◌∙◌, arith}
+use Rattle.std.proofs.lemmas.List.{append_assoc, drop_at, drop-drop, take_at}
 use Rattle.std.proofs.lemmas.Bool.{eq-eqb, le-leb}
 use Rattle.table.specs.declared.board.Board.{Board}
 use Rattle.tablefile.proofs.Checked.{check_small}
-use Rattle.tablefile.proofs.Laid.{laid_more, length_laid, part_laid}
+use Rattle.tablefile.proofs.Laid.{length_laid, part_laid}
 use Rattle.tablefile.proofs.Lengths.{length_block, length_front, length_place}
-use Rattle.tablefile.proofs.Pasted.{length_zeros}
 use Rattle.tablefile.proofs.Placed.{place_out}
 use Rattle.tablefile.proofs.Spelled.{spells_spelled}
+use Rattle.tablefile.proofs.Zeros.{all_zeros, laid_rest, length_zeros, zeros_more}
 use Rattle.tablefile.specs.Check.{check_of}
 use Rattle.tablefile.specs.Layout.{block_bytes, front_bytes, place_bytes}
 use Rattle.tablefile.specs.Parts.{all_zero, laid, part, zeros}
 use Rattle.tablefile.specs.Refusing.{bears_number, block_refusal, check_stands, header_fits, rest_zero}
 use Rattle.tablefile.specs.Spelling.{spelled, spells}
 use Rattle.tablefile.specs.declared.records.Record.{Record}
-
-all_zeros : (n : ℕ) → all_zero (zeros n) ≡ true
-unfolding zeros
-all_zeros zero = refl
-all_zeros (suc n) = all_zeros n
-
-zeros_more : (n m : ℕ) → zeros n ++ zeros m ≡ zeros (n + m)
-unfolding zeros
-zeros_more n m = replicate-append-replicate n m 0
-
--- the places from c on are zeros
-laid_rest : (w c m : ℕ) (f : ℕ → List ℕ) → ((k : ℕ) → c ≤ k → f k ≡ zeros w) → laid (c + m) f ≡ laid c f ++ zeros (w * m)
-unfolding zeros
-laid_rest w c zero f e =
-    let none : c + 0 ≡ c = omega arith in
-    ap (λ k. laid k f) none ∙ sym (ap (λ k. laid c f ++ zeros k) (mul-zero w) ∙ append-nil (laid c f))
-laid_rest w c (suc m) f e =
-    let one : c + suc m ≡ c + m + 1 = omega arith in
-    let more : w * m + w ≡ w * suc m = sym (ap (λ k. w * k) (sym (add-one m)) ∙ mul-add w m 1 ∙ ap (λ x. w * m + x) (mul-one w)) in
-    ap (λ k. laid k f) one ∙ laid_more (c + m) f
-    ∙ ap (λ xs. xs ++ f (c + m)) (laid_rest w c m f e) ∙ ap (λ xs. (laid c f ++ zeros (w * m)) ++ xs) (e (c + m) (omega arith))
-    ∙ append_assoc (laid c f) (zeros (w * m)) (zeros w) ∙ ap (λ xs. laid c f ++ xs) (zeros_more (w * m) w ∙ ap zeros more)
 
 -- the bytes of a block from its first place on
 after_header : (board : Board) (k : ℕ) (rs : List Record) → drop 8 (block_bytes board k rs) ≡ laid 10 (place_bytes rs) ++ (zeros 22 ++ spelled 2 (check_of (front_bytes board k rs)))

@@ -1,5 +1,5 @@
 -- Numbers as bytes, and back.
-use Rattle.std.proofs.Common.{◌≡◌, ℕ, zero, suc, ◌+◌, ◌-◌, ◌*◌, ◌/◌, ◌%◌, ◌^◌, ◌<◌, ◌≤◌, List, [], ◌∷◌, ◌++◌, length, get_or, take, drop, sym, refl, ap, ◌∙◌, subst, div-lt_iff_lt-mul, pow-suc, arith}
+use Rattle.std.proofs.Common.{◌≡◌, ℕ, zero, suc, ◌+◌, ◌*◌, ◌/◌, ◌%◌, ◌^◌, ◌<◌, ◌≤◌, List, [], ◌∷◌, ◌++◌, length, get_or, take, drop, sym, refl, ap, ◌∙◌, subst, div-lt_iff_lt-mul, pow-suc, arith}
 use Rattle.std.proofs.lemmas.Int.Digits.{number_push}
 use Rattle.std.proofs.lemmas.List.{get_or-drop, get_or-take, length-drop, length_push, length-take-le, take_all, take_more}
 use Rattle.tablefile.specs.Spelling.{spelled, spells}
@@ -52,11 +52,10 @@ four_spelled n =
     ∙ ap (λ x. n / 256 / 256 / 256 % 256 ∷ x % 256 ∷ n / 256 % 256 ∷ n % 256 ∷ []) b
 
 -- the last two bytes
-pub last_spell : (bs : List ℕ) (n : ℕ) → length bs ≡ n + 2 → get_or bs (length bs - 2) 0 * 256 + get_or bs (length bs - 1) 0 ≡ spells (drop n bs)
+pub last_spell : (bs : List ℕ) (n : ℕ) → length bs ≡ n + 2 → get_or bs n 0 * 256 + get_or bs (n + 1) 0 ≡ spells (drop n bs)
 last_spell bs n e =
-    let rest : length (drop n bs) ≡ 2 = length-drop n bs ∙ omega arith in
-    let first : get_or (drop n bs) 0 0 ≡ get_or bs (length bs - 2) 0 = get_or-drop n bs 0 0 ∙ ap (λ k. get_or bs k 0) (omega arith) in
-    let second : get_or (drop n bs) 1 0 ≡ get_or bs (length bs - 1) 0 = get_or-drop n bs 1 0 ∙ ap (λ k. get_or bs k 0) (omega arith) in
+    let long : length (drop n bs) ≡ 2 = length-drop n bs ∙ omega arith in
+    let first : get_or (drop n bs) 0 0 ≡ get_or bs n 0 = get_or-drop n bs 0 0 ∙ ap (λ k. get_or bs k 0) (omega arith) in
     let both = two_spell (drop n bs) (omega arith) in
     let whole : spells (take 2 (drop n bs)) ≡ spells (drop n bs) = ap spells (take_all 2 (drop n bs) (omega arith)) in
-    omega (arith, first, second, both, whole)
+    omega (arith, first, get_or-drop n bs 1 0, both, whole)

@@ -15,13 +15,10 @@ take_min bs n k e =
     (λ le. take_all k bs (omega arith) ∙ sym (take_all n bs le))
     (cases_lt n (length bs))
 
-less : (k : ℕ) → k - 0 ≡ k
-less k = omega arith
-
 pub returns : goal.returns
 returns c =
     let bs = c.args.bytes.now in
     let at = c.min.result in
     let rest = take (length bs - at) (drop at bs) in
     let whole : rest ≡ drop c.args.from bs = take_rest bs at ∙ drop_min bs c.args.from at c.min.ensures in
-    ap (λ k. take k rest) (less c.min-2.result) ∙ take_min rest c.args.n c.min-2.result c.min-2.ensures ∙ ap (take c.args.n) whole
+    take_min rest c.args.n c.min-2.result c.min-2.ensures ∙ ap (take c.args.n) whole
