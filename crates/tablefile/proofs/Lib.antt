@@ -2,7 +2,6 @@ pub mod Spelled
 pub mod Checked
 pub mod Laid
 pub mod Zeros
-pub mod Walked
 pub mod Lengths
 pub mod Placed
 pub mod Fronts

@@ -1,6 +1,5 @@
 -- What writing a file answers and leaves, by whether the buffer is long enough; and the numbers chosen for a block.
-use Rattle.std.proofs.Common.{◌≡◌, ℕ, ◌*◌, ◌<◌, ◌≤◌, cond, List, ◌++◌, length, get_or, drop, Ok, Err, sym, ap, ◌∙◌, subst, arith}
-use Rattle.std.proofs.lemmas.List.{length-take}
+use Rattle.std.proofs.Common.{◌≡◌, ℕ, ◌*◌, ◌<◌, ◌≤◌, cond, List, ◌++◌, length, get_or, drop, Ok, Err, sym, ap, ◌∙◌, subst}
 use Rattle.std.proofs.lemmas.Bool.{le-ltb, lt-ltb}
 use Rattle.table.specs.declared.board.Board.{Board}
 use Rattle.table.specs.declared.refusal.Refusal.TheVariants.{BufferTooShort}
@@ -29,10 +28,7 @@ module _ (board : Board) (rows : List Row) where
   pub long_buffer : (out : List ℕ) → length file ≤ length out → buffer_after board rows out ≡ file ++ drop (length file) out
   long_buffer out h = ap (λ b. cond b out (file ++ drop (length file) out)) (le-ltb (length out) (length file) h)
 
--- the numbers chosen for a block
-pub chosen_few : (ns chosen : List ℕ) (k : ℕ) → chosen ≡ part ns (10 * k) 10 → length chosen ≤ 10
-chosen_few ns chosen k e = omega (arith, ap length e, length-take 10 (drop (10 * k) ns))
-
+-- the numbers chosen for a block are those of rows
 pub chosen_within : (rows : List Row) (chosen : List ℕ) (k : ℕ) → chosen ≡ part (numbers rows) (10 * k) 10 → AllWithin chosen rows
 chosen_within rows chosen k e =
     subst (λ ns. AllWithin ns rows) (sym e) (λ p h. task_within rows (get_or (part (numbers rows) (10 * k) 10) p 0) (part_tasks rows (10 * k) 10 p h))

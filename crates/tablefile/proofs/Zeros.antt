@@ -1,5 +1,6 @@
 -- Zeros, and parts of which the last are zeros.
-use Rattle.std.proofs.Common.{◌≡◌, ℕ, zero, suc, ◌+◌, ◌-◌, ◌*◌, ◌≤◌, true, List, ◌++◌, length, drop, sym, refl, ap, ◌∙◌, mul-zero, mul-one, mul-add, add-one, arith}
+use Rattle.std.proofs.Common.{◌≡◌, ℕ, zero, suc, ◌+◌, ◌-◌, ◌*◌, ◌≤◌, true, List, ◌++◌, length, drop, sym, refl, ap, ◌∙◌, mul-zero, arith}
+use Rattle.std.proofs.Math.Nat.{mul-suc}
 use Rattle.std.proofs.lemmas.List.{append_assoc, append-nil, drop-replicate, length-replicate, replicate-append-replicate}
 use Rattle.tablefile.proofs.Laid.{laid_more}
 use Rattle.tablefile.specs.Parts.{all_zero, laid, zeros}
@@ -29,7 +30,6 @@ laid_rest w c zero f e =
     ap (λ k. laid k f) none ∙ sym (ap (λ k. laid c f ++ zeros k) (mul-zero w) ∙ append-nil (laid c f))
 laid_rest w c (suc m) f e =
     let one : c + suc m ≡ c + m + 1 = omega arith in
-    let more : w * m + w ≡ w * suc m = sym (ap (λ k. w * k) (sym (add-one m)) ∙ mul-add w m 1 ∙ ap (λ x. w * m + x) (mul-one w)) in
     ap (λ k. laid k f) one ∙ laid_more (c + m) f
     ∙ ap (λ xs. xs ++ f (c + m)) (laid_rest w c m f e) ∙ ap (λ xs. (laid c f ++ zeros (w * m)) ++ xs) (e (c + m) (omega arith))
-    ∙ append_assoc (laid c f) (zeros (w * m)) (zeros w) ∙ ap (λ xs. laid c f ++ xs) (zeros_more (w * m) w ∙ ap zeros more)
+    ∙ append_assoc (laid c f) (zeros (w * m)) (zeros w) ∙ ap (λ xs. laid c f ++ xs) (zeros_more (w * m) w ∙ ap zeros (sym (mul-suc w m)))
