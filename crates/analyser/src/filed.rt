@@ -49,13 +49,13 @@ fn is_same(record: &Record, rows: &[Row]) -> bool {
 
 // The first check that the bytes fail: of the length, then of each block.
 fn first_refusal(board: &Board, bytes: &[u8]) -> Option<Refusal> {
-    if let Some(refusal) = check_length(bytes.len()) {
+    if let Err(refusal) = check_length(bytes.len()) {
         return Some(refusal);
     }
     let reader = Reader::new(bytes);
     for block in 0..reader.blocks() {
         let number = block as u8;
-        if let Some(refusal) = check_block(board, number, reader.block(number)) {
+        if let Err(refusal) = check_block(board, number, reader.block(number)) {
             return Some(refusal);
         }
     }

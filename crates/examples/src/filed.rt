@@ -61,13 +61,13 @@ fn joined(first: [u8; 512], second: [u8; 512]) -> [u8; 1024] {
 
 // The number of the first refusal of a file for the worked board, or 0.
 pub(crate) fn refused(bytes: &[u8]) -> u8 {
-    if let Some(refusal) = check_length(bytes.len()) {
+    if let Err(refusal) = check_length(bytes.len()) {
         return refusal.number();
     }
     let reader = Reader::new(bytes);
     for k in 0..64 {
         if k < reader.blocks() {
-            if let Some(refusal) = check_block(&worked_board(), k as u8, reader.block(k as u8)) {
+            if let Err(refusal) = check_block(&worked_board(), k as u8, reader.block(k as u8)) {
                 return refusal.number();
             }
         }
@@ -142,7 +142,7 @@ fn full_table(rt: HostRuntime) -> Result<(), Fail> {
     let reader = Reader::new(&out);
     assert_eq!(rt; reader.blocks(), 7);
     for k in 0..7u8 {
-        assert!(rt; check_block(&LARGEST, k, reader.block(k)).is_none());
+        assert!(rt; check_block(&LARGEST, k, reader.block(k)).is_ok());
     }
     assert_eq!(rt; reader.count(5), 10);
     assert_eq!(rt; reader.count(6), 4);
@@ -178,12 +178,12 @@ fn lengths(rt: HostRuntime) -> Result<(), Fail> {
     let wrong = [0, 1, 511, 513, 32_767, 32_769, 33_280];
     for k in 0..7 {
         match check_length(wrong[k]) {
-            Some(refusal) => assert_eq!(rt; refusal.number(), 2),
-            None => return Err(Fail::new("passed")),
+            Err(refusal) => assert_eq!(rt; refusal.number(), 2),
+            Ok(()) => return Err(Fail::new("passed")),
         }
     }
-    assert!(rt; check_length(512).is_none());
-    assert!(rt; check_length(32_768).is_none());
+    assert!(rt; check_length(512).is_ok());
+    assert!(rt; check_length(32_768).is_ok());
     Ok(())
 }
 

@@ -18,9 +18,10 @@ use Rattle.sheet.specs.Editing.{amend_refusal, amended, entered, entry_of, entry
 use Rattle.sheet.specs.Loading.{Enters, after_load, count_told, load_answer, loaded}
 use Rattle.sheet.specs.Marks.{stands}
 use Rattle.sheet.specs.Passing.{judge_refusal, judged, order_set, order_told, searched}
-use Rattle.sheet.specs.State.{State, done_unless, fresh, unless}
+use Rattle.sheet.specs.State.{State, fresh, unless}
 use Rattle.sheet.specs.declared.refused.NotOrdered.TheVariants.{CoreLacking}
 use Rattle.std.proofs.lemmas.Bool.{ltb-true}
+use Rattle.table.specs.Refusals.{done_unless}
 use Rattle.table.specs.Rows.{row_at}
 use Rattle.table.specs.Tests.{Meaning}
 use Rattle.table.specs.declared.board.Board.{Board}

@@ -21,12 +21,13 @@ use Rattle.promise.specs.declared.call.Call.{Call}
 use Rattle.sheet.proofs.Tasked.{task_used}
 use Rattle.sheet.specs.Formed.{WellFormed}
 use Rattle.sheet.specs.Passing.{asked, order_set, order_told, searched, unbound_refusal}
-use Rattle.sheet.specs.State.{State, done_unless, fresh}
+use Rattle.sheet.specs.State.{State, fresh}
 use Rattle.sheet.specs.declared.refused.NotOrdered.TheVariants as order
 use Rattle.sheet.specs.declared.refused.NotPassing.TheVariants as judge
 use Rattle.std.proofs.lemmas.Bool.{and_parts, both_ways, cond-true, lt-ltb}
 use Rattle.table.proofs.Places.{on_core_is, on_core_task}
 use Rattle.table.specs.Ranks.{higher_ranked}
+use Rattle.table.specs.Refusals.{done_unless}
 use Rattle.table.specs.Rows.{on_core, row_at}
 use Rattle.table.specs.Tests.{Laws, Meaning}
 use Rattle.table.specs.declared.board.Board.{Board}

@@ -67,7 +67,7 @@ fn analyse_for(board: Board, bytes: &[u8]) -> Text
 pub fn analyse(bytes: &[u8]) -> Text
     ensures prints { Printed bytes.now (shown result) }
 {
-    if let Some(refusal) = check_length(bytes.len()) {
+    if let Err(refusal) = check_length(bytes.len()) {
         return refused(refusal, 0);
     }
     match bytes {

@@ -1,10 +1,11 @@
 -- Entering, withdrawing and amending: why each is refused, in the order of its checks, and the sheet afterwards.
 use Rattle.std.specs.Prelude.{ℕ, Bool, true, not, ◌&&◌, List, is_some, None, Option, Result, ◌==◌, nat_le, nat_lt, slice_set}
 use Rattle.sheet.specs.Marks.{loosened}
-use Rattle.sheet.specs.State.{State, done_unless, require, unless}
+use Rattle.sheet.specs.State.{State, require, unless}
 use Rattle.sheet.specs.declared.entry.Entry.{Entry}
 use Rattle.table.specs.Firsts.{first_that}
 use Rattle.table.specs.Limits.{suits}
+use Rattle.table.specs.Refusals.{done_unless}
 use Rattle.table.specs.Rows.{capacity, empty_row, is_task, on_core, row_at}
 use Rattle.table.specs.Sets.{Set}
 use Rattle.table.specs.declared.refusal.Refusal.TheVariants.{CoreLacking, FigureLimits, NumberEmpty, NumberOccupied, NumberTooLarge, RankUnavailable}

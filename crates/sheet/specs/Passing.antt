@@ -5,11 +5,12 @@ use Rattle.ordering.specs.Orders.{Answers, Impossible}
 use Rattle.ordering.specs.Search.{FewTrials, Outcome, ordered, refused, search_for}
 use Rattle.ordering.specs.Writing.{RanksFirst, written}
 use Rattle.sheet.specs.Marks.{standing}
-use Rattle.sheet.specs.State.{State, done_unless, require, unless}
+use Rattle.sheet.specs.State.{State, require, unless}
 use Rattle.sheet.specs.declared.refused.NotOrdered.TheVariants as order
 use Rattle.sheet.specs.declared.refused.NotOrdered.{NotOrdered}
 use Rattle.sheet.specs.declared.refused.NotPassing.TheVariants.{CoreLacking, NoBound}
 use Rattle.sheet.specs.declared.refused.NotPassing.{NotPassing}
+use Rattle.table.specs.Refusals.{done_unless}
 use Rattle.table.specs.Rows.{on_core}
 use Rattle.table.specs.Tests.{Meaning}
 use Rattle.table.specs.declared.row.Row.{Row}

@@ -3,7 +3,7 @@ use Rattle.sheet.specs.declared.closed.ClosedSheet.{ClosedSheet}
 use Rattle.sheet.specs.declared.marks.Mark.TheVariants.{Loose}
 use Rattle.sheet.specs.declared.marks.Mark.{Mark}
 use Rattle.sheet.specs.declared.open.OpenSheet.{OpenSheet}
-use Rattle.std.specs.Prelude.{Bool, cond, List, ◌++◌, map, take, drop, replicate, Some, None, Ok, Err, Option, Result}
+use Rattle.std.specs.Prelude.{Bool, cond, List, ◌++◌, map, take, drop, replicate, Some, None, Option}
 use Rattle.table.specs.Rows.{empty_row}
 use Rattle.table.specs.declared.board.Board.{Board}
 use Rattle.table.specs.declared.row.Row.{Row}
@@ -26,11 +26,6 @@ fresh board rows = record { board = board; rows = map (λ row. empty_row) (take 
 -- a refusal where a condition does not hold, and else what the later ones come to
 abbrev pub require : {R : Type 0} → Bool → R → Option R → Option R
 require holds why later = cond holds later (Some why)
-
--- what a call answers that tells nothing but its refusal
-abbrev pub done_unless : {R : Type 0} → Option R → Result (Unit {0}) R
-done_unless None = Ok tt
-done_unless (Some why) = Err why
 
 -- the sheet after a call: changed, or as it was where the call is refused
 abbrev pub unless : {R : Type 0} → Option R → State → State → State

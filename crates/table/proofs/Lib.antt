@@ -7,3 +7,4 @@ pub mod FromFn
 pub mod Firsts
 pub mod Slots
 pub mod Plains
+pub mod Refused

@@ -1,5 +1,5 @@
--- The numbers of the refusals: what a program prints and a person reads.
-use Rattle.std.specs.Prelude.{ℕ}
+-- The refusals: what a call answers, and the numbers that a program prints and a person reads.
+use Rattle.std.specs.Prelude.{ℕ, Some, None, Ok, Err, Option, Result}
 use Rattle.table.specs.declared.refusal.Refusal.TheVariants.{BlockCheck, BlockLayout, BlockNumber, BoardLimits, BufferTooShort, CoreLacking, FigureLimits, FileLength, NoBound, NoOrder, NumberEmpty, NumberOccupied, NumberTooLarge, RankUnavailable}
 use Rattle.table.specs.declared.refusal.Refusal.{Refusal}
 
@@ -18,3 +18,8 @@ number_of RankUnavailable = 11
 number_of NoOrder = 12
 number_of NoBound = 13
 number_of BufferTooShort = 14
+
+-- what a call answers that tells nothing but its refusal
+abbrev pub done_unless : {R : Type 0} → Option R → Result (Unit {0}) R
+done_unless None = Ok tt
+done_unless (Some why) = Err why

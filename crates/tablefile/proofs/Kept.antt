@@ -1,12 +1,11 @@
 -- Bytes that spell a record are its bytes: nothing of them is lost.
-use Rattle.std.proofs.Common.{◌≡◌, ℕ, ◌+◌, ◌*◌, ◌<◌, ◌≤◌, cond, List, [], ◌∷◌, ◌++◌, length, get_or, take, drop, sym, refl, ap, ◌∙◌, subst, arith}
+use Rattle.std.proofs.Common.{◌≡◌, ℕ, ◌+◌, ◌*◌, ◌<◌, ◌≤◌, List, [], ◌∷◌, ◌++◌, length, get_or, take, drop, sym, refl, ap, ◌∙◌, subst, arith}
 use Rattle.std.proofs.lemmas.List.{append-nil, drop-drop, get_or-drop, get_or-take, length-drop, length-take-le, take_all}
-use Rattle.std.proofs.lemmas.Bool.{eq-eqb}
 use Rattle.tablefile.proofs.Laid.{laid_cut, laid_same, part_laid}
 use Rattle.tablefile.proofs.Spelled.{spelled_spells}
-use Rattle.tablefile.specs.Layout.{no_record, record_bytes, word_in, words}
+use Rattle.tablefile.specs.Layout.{record_bytes, word_in, words}
 use Rattle.tablefile.specs.Parts.{laid, part}
-use Rattle.tablefile.specs.Reading.{number_at, record_of, spelled_record}
+use Rattle.tablefile.specs.Reading.{number_at, spelled_record}
 use Rattle.tablefile.specs.Spelling.{spelled}
 
 front_four : (bs : List ℕ) → 4 ≤ length bs → get_or bs 0 0 ∷ get_or bs 1 0 ∷ get_or bs 2 0 ∷ get_or bs 3 0 ∷ drop 4 bs ≡ bs
@@ -51,9 +50,8 @@ module _ (bs : List ℕ) (long : length bs ≡ 48) (small : (i : ℕ) → get_or
       ∙ laid_cut 4 11 (drop 4 bs)
       ∙ take_all 44 (drop 4 bs) (omega (arith, length-drop 4 bs, long))
 
-  pub bytes_kept : record_bytes (record_of bs) ≡ bs
-  unfolding record_of record_bytes
+  pub bytes_kept : record_bytes (spelled_record bs) ≡ bs
+  unfolding record_bytes
   bytes_kept =
-      ap (λ t. record_bytes (cond t (spelled_record bs) no_record)) (eq-eqb (length bs) 48 long)
-      ∙ ap (λ xs. get_or bs 0 0 ∷ get_or bs 1 0 ∷ get_or bs 2 0 ∷ get_or bs 3 0 ∷ xs) rest_again
+      ap (λ xs. get_or bs 0 0 ∷ get_or bs 1 0 ∷ get_or bs 2 0 ∷ get_or bs 3 0 ∷ xs) rest_again
       ∙ front_four bs (omega (arith, long))

@@ -1,8 +1,10 @@
 -- Parts of one width laid one after another.
-use Rattle.std.proofs.Common.{◌≡◌, ℕ, zero, suc, ◌+◌, ◌*◌, ◌<◌, ◌≤◌, List, [], ◌∷◌, ◌++◌, length, get_or, take, drop, sym, refl, ap, ◌∙◌, subst, ⊎_elim, mul-zero, mul-one, mul-add, add-one, arith, take-add}
-use Rattle.std.proofs.lemmas.List.{append_assoc, drop_at, length-append, take_at, take_more}
+use Rattle.std.proofs.Common.{◌≡◌, ℕ, zero, suc, ◌+◌, ◌*◌, ◌<◌, ◌≤◌, List, [], ◌∷◌, ◌++◌, length, get_or, take, drop, sym, refl, ap, ◌∙◌, subst, ⊎_elim, mul-zero, add-one, arith, take-add}
+use Rattle.std.proofs.lemmas.List.{append_assoc, append-nil, drop_at, drop-drop, length-append, take_at, take_more}
+use Rattle.std.proofs.Math.Nat.{mul-suc}
 use Rattle.std.proofs.lemmas.Bool.{cases_lt}
 use Rattle.tablefile.specs.Parts.{laid}
+use borrow.Rule.Slice.PartMut.{put_mid}
 
 pub laid_none : {X : Type 0} (f : ℕ → List X) → laid 0 f ≡ []
 unfolding laid
@@ -17,15 +19,11 @@ unfolding laid
 laid_same zero f g e = refl
 laid_same (suc n) f g e = ap (λ xs. xs ++ f n) (laid_same n f g (λ k h. e k (omega arith))) ∙ ap (λ xs. laid n g ++ xs) (e n (omega arith))
 
--- w * (n + 1)
-times_more : (w n : ℕ) → w * suc n ≡ w * n + w
-times_more w n = ap (λ k. w * k) (sym (add-one n)) ∙ mul-add w n 1 ∙ ap (λ x. w * n + x) (mul-one w)
-
 pub length_laid : {X : Type 0} (w n : ℕ) (f : ℕ → List X) → ((k : ℕ) → k < n → length (f k) ≡ w) → length (laid n f) ≡ w * n
 unfolding laid
 length_laid w zero f e = sym (mul-zero w)
 length_laid w (suc n) f e =
-    length-append (laid n f) (f n) ∙ omega (arith, length_laid w n f (λ k h. e k (omega arith)), e n (omega arith), times_more w n)
+    length-append (laid n f) (f n) ∙ omega (arith, length_laid w n f (λ k h. e k (omega arith)), e n (omega arith), mul-suc w n)
 
 -- part k of those laid, and what stands after it
 pub part_laid : {X : Type 0} (w n k : ℕ) (f : ℕ → List X) (rest : List X) → ((k : ℕ) → k < n → length (f k) ≡ w) → k < n → take w (drop (w * k) (laid n f ++ rest)) ≡ f k
@@ -44,9 +42,29 @@ part_laid w (suc n) k f rest e h =
 pub laid_cut : {X : Type 0} (w n : ℕ) (xs : List X) → laid n (λ k. take w (drop (w * k) xs)) ≡ take (w * n) xs
 unfolding laid
 laid_cut w zero xs = ap (λ k. take k xs) (sym (mul-zero w))
-laid_cut w (suc n) xs = ap (λ ys. ys ++ take w (drop (w * n) xs)) (laid_cut w n xs) ∙ sym (take-add (w * n) w xs) ∙ ap (λ k. take k xs) (sym (times_more w n))
+laid_cut w (suc n) xs = ap (λ ys. ys ++ take w (drop (w * n) xs)) (laid_cut w n xs) ∙ sym (take-add (w * n) w xs) ∙ ap (λ k. take k xs) (sym (mul-suc w n))
 
 pub laid_ones : {X : Type 0} (n : ℕ) (xs : List X) (d : X) → n ≤ length xs → laid n (λ k. get_or xs k d ∷ []) ≡ take n xs
 unfolding laid
 laid_ones zero xs d h = refl
 laid_ones (suc n) xs d h = ap (λ ys. ys ++ (get_or xs n d ∷ [])) (laid_ones n xs d (omega arith)) ∙ sym (take_more xs n d (omega arith)) ∙ ap (λ k. take k xs) (add-one n)
+
+-- a front, the parts laid after it, and then what stands there otherwise
+abbrev pub laid_into : {X : Type 0} → List X → List X → ℕ → (ℕ → List X) → ℕ → List X
+laid_into front rest w f i = (front ++ laid i f) ++ drop (w * i) rest
+
+pub laid_into_none : {X : Type 0} (front rest : List X) (w : ℕ) (f : ℕ → List X) → laid_into front rest w f 0 ≡ front ++ rest
+unfolding laid
+laid_into_none front rest w f = ap (λ xs. xs ++ drop (w * 0) rest) (append-nil front) ∙ ap (λ k. front ++ drop k rest) (mul-zero w)
+
+-- part i written after those before it
+pub laid_into_more : {X : Type 0} (front rest bs : List X) (w : ℕ) (f : ℕ → List X) (i at k : ℕ) → ((j : ℕ) → length (f j) ≡ w) → at ≡ length front + w * i → k ≡ w → bs ≡ f i → put_mid at k (laid_into front rest w f i) bs ≡ laid_into front rest w f (i + 1)
+laid_into_more front rest bs w f i at k e there wide is =
+    let done = front ++ laid i f in
+    let long : length done ≡ at = length-append front (laid i f) ∙ omega (arith, length_laid w i f (λ j _. e j)) in
+    let more : w * i + w ≡ w * (i + 1) = sym (mul-suc w i) ∙ ap (λ n. w * n) (sym (add-one i)) in
+    ap (λ xs. xs ++ (bs ++ drop k (drop at (done ++ drop (w * i) rest)))) (take_at done (drop (w * i) rest) at long)
+    ∙ ap (λ xs. done ++ (bs ++ drop k xs)) (drop_at done (drop (w * i) rest) at long)
+    ∙ ap (λ xs. done ++ (bs ++ xs)) (drop-drop k (w * i) rest ∙ ap (λ n. drop n rest) (ap (λ n. w * i + n) wide ∙ more))
+    ∙ sym (append_assoc done bs (drop (w * (i + 1)) rest))
+    ∙ ap (λ xs. xs ++ drop (w * (i + 1)) rest) (append_assoc front (laid i f) bs ∙ ap (λ xs. front ++ xs) (ap (λ b. laid i f ++ b) is ∙ sym (laid_more i f)))

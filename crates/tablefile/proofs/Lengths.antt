@@ -5,7 +5,7 @@ use Rattle.table.specs.declared.board.Board.{Board}
 use Rattle.table.specs.declared.row.Figures.{Figures}
 use Rattle.table.specs.declared.row.Row.{Row}
 use Rattle.tablefile.proofs.Laid.{length_laid}
-use Rattle.tablefile.proofs.Pasted.{length_zeros}
+use Rattle.tablefile.proofs.Zeros.{length_zeros}
 use Rattle.tablefile.specs.Check.{check_of}
 use Rattle.tablefile.specs.Layout.{block_bytes, blocks_for, file_bytes, front_bytes, in_block, no_record, place_bytes, record_bytes, word_in, words}
 use Rattle.tablefile.specs.Numbers.{numbers}

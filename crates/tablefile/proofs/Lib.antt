@@ -1,10 +1,10 @@
 pub mod Spelled
 pub mod Checked
 pub mod Laid
-pub mod Walked
-pub mod Pasted
+pub mod Zeros
 pub mod Lengths
 pub mod Placed
+pub mod Fronts
 pub mod Numbered
 pub mod Written
 pub mod Passing

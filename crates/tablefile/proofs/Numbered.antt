@@ -20,7 +20,7 @@ pub tasks_out : (rows : List Row) (i : ℕ) → is_task rows i ≡ false → tas
 unfolding tasks_below
 tasks_out rows i e = ap (tasks_below rows) (add-one i) ∙ ap (λ b. tasks_below rows i ++ cond b (i ∷ []) []) e ∙ append-nil (tasks_below rows i)
 
-length_tasks : (rows : List Row) (n : ℕ) → length (tasks_below rows n) ≤ n
+pub length_tasks : (rows : List Row) (n : ℕ) → length (tasks_below rows n) ≤ n
 unfolding tasks_below
 length_tasks rows zero = omega arith
 length_tasks rows (suc n) =

@@ -1,42 +1,20 @@
 -- Every block that is written passes the checks, and its records stand where they are read.
-use Rattle.std.proofs.Common.{◌≡◌, ℕ, zero, suc, ◌+◌, ◌-◌, ◌*◌, ◌<◌, ◌≤◌, true, List, ◌++◌, length, get_or, take, drop, None, sym, refl, ap, ◌∙◌, mul-zero, mul-one, mul-add, add-one, arith}
-use Rattle.std.proofs.lemmas.List.{append_assoc, append-nil, drop_at, drop-drop, replicate-append-replicate, take_at}
+use Rattle.std.proofs.Common.{◌≡◌, ℕ, ◌+◌, ◌-◌, ◌*◌, ◌<◌, ◌≤◌, true, List, ◌++◌, length, get_or, take, drop, None, sym, refl, ap, ◌∙◌, arith}
+use Rattle.std.proofs.lemmas.List.{append_assoc, drop_at, drop-drop, take_at}
 use Rattle.std.proofs.lemmas.Bool.{eq-eqb, le-leb}
 use Rattle.table.specs.declared.board.Board.{Board}
 use Rattle.tablefile.proofs.Checked.{check_small}
-use Rattle.tablefile.proofs.Laid.{laid_more, length_laid, part_laid}
+use Rattle.tablefile.proofs.Fronts.{front_laid, header}
+use Rattle.tablefile.proofs.Laid.{length_laid, part_laid}
 use Rattle.tablefile.proofs.Lengths.{length_block, length_front, length_place}
-use Rattle.tablefile.proofs.Pasted.{length_zeros}
-use Rattle.tablefile.proofs.Placed.{place_out}
 use Rattle.tablefile.proofs.Spelled.{spells_spelled}
+use Rattle.tablefile.proofs.Zeros.{all_zeros, drop_zeros, length_zeros}
 use Rattle.tablefile.specs.Check.{check_of}
 use Rattle.tablefile.specs.Layout.{block_bytes, front_bytes, place_bytes}
 use Rattle.tablefile.specs.Parts.{all_zero, laid, part, zeros}
 use Rattle.tablefile.specs.Refusing.{bears_number, block_refusal, check_stands, header_fits, rest_zero}
 use Rattle.tablefile.specs.Spelling.{spelled, spells}
 use Rattle.tablefile.specs.declared.records.Record.{Record}
-
-all_zeros : (n : ℕ) → all_zero (zeros n) ≡ true
-unfolding zeros
-all_zeros zero = refl
-all_zeros (suc n) = all_zeros n
-
-zeros_more : (n m : ℕ) → zeros n ++ zeros m ≡ zeros (n + m)
-unfolding zeros
-zeros_more n m = replicate-append-replicate n m 0
-
--- the places from c on are zeros
-laid_rest : (w c m : ℕ) (f : ℕ → List ℕ) → ((k : ℕ) → c ≤ k → f k ≡ zeros w) → laid (c + m) f ≡ laid c f ++ zeros (w * m)
-unfolding zeros
-laid_rest w c zero f e =
-    let none : c + 0 ≡ c = omega arith in
-    ap (λ k. laid k f) none ∙ sym (ap (λ k. laid c f ++ zeros k) (mul-zero w) ∙ append-nil (laid c f))
-laid_rest w c (suc m) f e =
-    let one : c + suc m ≡ c + m + 1 = omega arith in
-    let more : w * m + w ≡ w * suc m = sym (ap (λ k. w * k) (sym (add-one m)) ∙ mul-add w m 1 ∙ ap (λ x. w * m + x) (mul-one w)) in
-    ap (λ k. laid k f) one ∙ laid_more (c + m) f
-    ∙ ap (λ xs. xs ++ f (c + m)) (laid_rest w c m f e) ∙ ap (λ xs. (laid c f ++ zeros (w * m)) ++ xs) (e (c + m) (omega arith))
-    ∙ append_assoc (laid c f) (zeros (w * m)) (zeros w) ∙ ap (λ xs. laid c f ++ xs) (zeros_more (w * m) w ∙ ap zeros more)
 
 -- the bytes of a block from its first place on
 after_header : (board : Board) (k : ℕ) (rs : List Record) → drop 8 (block_bytes board k rs) ≡ laid 10 (place_bytes rs) ++ (zeros 22 ++ spelled 2 (check_of (front_bytes board k rs)))
@@ -71,24 +49,21 @@ unfolding block_bytes front_bytes
 header_passes board k rs h = rw (le-leb (length rs) 10 h, eq-eqb board.cores board.cores refl, eq-eqb board.resources board.resources refl)
 
 zeros_pass : (board : Board) (k : ℕ) (rs : List Record) → length rs ≤ 10 → rest_zero (block_bytes board k rs) ≡ true
-zeros_pass board k rs h =
-    let block = block_bytes board k rs in
+unfolding block_bytes
+zeros_pass board k rs few =
     let check = spelled 2 (check_of (front_bytes board k rs)) in
     let c = length rs in
-    let m = 10 - c in
-    let ten : 10 ≡ c + m = omega arith in
-    let long : length (laid c (place_bytes rs)) ≡ 48 * c = length_laid 48 c (place_bytes rs) (λ j l. length_place rs j) in
-    let whole : drop 8 block ≡ laid c (place_bytes rs) ++ (zeros (48 * m + 22) ++ check) =
-    after_header board k rs
-    ∙ ap (λ n. laid n (place_bytes rs) ++ (zeros 22 ++ check)) ten
-    ∙ ap (λ xs. xs ++ (zeros 22 ++ check)) (laid_rest 48 c m (place_bytes rs) (place_out rs))
-    ∙ append_assoc (laid c (place_bytes rs)) (zeros (48 * m)) (zeros 22 ++ check)
-    ∙ ap (λ xs. laid c (place_bytes rs) ++ xs) (sym (append_assoc (zeros (48 * m)) (zeros 22) check) ∙ ap (λ xs. xs ++ check) (zeros_more (48 * m) 22)) in
-    let left : 510 - (8 + 48 * c) ≡ 48 * m + 22 = omega arith in
-    let rest : part block (8 + 48 * c) (510 - (8 + 48 * c)) ≡ zeros (48 * m + 22) =
-    ap (λ xs. take (510 - (8 + 48 * c)) xs) (sym (drop-drop (48 * c) 8 block) ∙ ap (drop (48 * c)) whole ∙ drop_at (laid c (place_bytes rs)) (zeros (48 * m + 22) ++ check) (48 * c) long)
-    ∙ take_at (zeros (48 * m + 22)) check (510 - (8 + 48 * c)) (length_zeros (48 * m + 22) ∙ sym left) in
-    ap (λ n. all_zero (part block (8 + 48 * n) (510 - (8 + 48 * n)))) (count_found board k rs) ∙ ap all_zero rest ∙ all_zeros (48 * m + 22)
+    let from = 8 + 48 * c in
+    let done = header board k rs ++ laid c (place_bytes rs) in
+    let rest = zeros (502 - 48 * c) in
+    let long : length done ≡ from = omega (arith, length_laid 48 c (place_bytes rs) (λ j l. length_place rs j)) in
+    let front : front_bytes board k rs ≡ done ++ rest = sym (front_laid board k rs few) ∙ ap (λ xs. done ++ xs) (drop_zeros (48 * c) 502) in
+    let found : part (block_bytes board k rs) from (510 - from) ≡ rest =
+    ap (λ xs. part (xs ++ check) from (510 - from)) front
+    ∙ ap (λ xs. part xs from (510 - from)) (append_assoc done rest check)
+    ∙ ap (take (510 - from)) (drop_at done (rest ++ check) from long)
+    ∙ take_at rest check (510 - from) (length_zeros (502 - 48 * c) ∙ omega arith) in
+    ap (λ n. all_zero (part (block_bytes board k rs) (8 + 48 * n) (510 - (8 + 48 * n)))) (count_found board k rs) ∙ ap all_zero found ∙ all_zeros (502 - 48 * c)
 
 -- every block that is written passes
 pub block_passes : (board : Board) (k : ℕ) (rs : List Record) → k < 65536 → length rs ≤ 10 → block_refusal board k (block_bytes board k rs) ≡ None

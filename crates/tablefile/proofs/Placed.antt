@@ -21,8 +21,3 @@ pub place_of : (rows : List Row) (ns : List ℕ) (p : ℕ) → p < length ns →
 place_of rows ns p h =
     let long : length (records_for rows ns) ≡ length ns = length-map ns (entry rows) in
     place_in (records_for rows ns) p (omega arith) ∙ ap record_bytes (get_or-map (entry rows) ns p 0 no_record h)
-
-pub place_none : (rows : List Row) (ns : List ℕ) (p : ℕ) → length ns ≤ p → place_bytes (records_for rows ns) p ≡ zeros 48
-place_none rows ns p h =
-    let long : length (records_for rows ns) ≡ length ns = length-map ns (entry rows) in
-    place_out (records_for rows ns) p (omega arith)

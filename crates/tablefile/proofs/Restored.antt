@@ -9,7 +9,6 @@ use Rattle.table.specs.declared.row.Figures.{Figures}
 use Rattle.tablefile.proofs.Laid.{part_laid}
 use Rattle.tablefile.proofs.Lengths.{length_record}
 use Rattle.tablefile.proofs.Spelled.{spells_spelled}
-use Rattle.tablefile.proofs.Walked.{four_same}
 use Rattle.tablefile.specs.Layout.{no_record, record_bytes, word_in, words}
 use Rattle.tablefile.specs.Numbers.{Four}
 use Rattle.tablefile.specs.Parts.{laid}
@@ -31,6 +30,9 @@ four_of (a ∷ b ∷ []) e = absurd (omega arith)
 four_of (a ∷ b ∷ c ∷ []) e = absurd (omega arith)
 four_of (a ∷ b ∷ c ∷ d ∷ []) e = refl
 four_of (a ∷ b ∷ c ∷ d ∷ x ∷ xs) e = absurd (omega arith)
+
+four_same : {a b c d e f g h : ℕ} → a ≡ e → b ≡ f → c ≡ g → d ≡ h → a ∷ b ∷ c ∷ d ∷ [] ≡ e ∷ f ∷ g ∷ h ∷ []
+four_same p q r s = cc
 
 made : Record → Bool → ℕ → ℕ → ℕ → List ℕ → List ℕ → Record
 made r u c t d x y = record { number = r.number; fourth = r.fourth; row = record { used = u; core = r.row.core; rank = r.row.rank; figures = record { cost = c; period = t; deadline = d; sensitivity = x; stress = y } } }

@@ -14,7 +14,7 @@ use Rattle.tablefile.proofs.Placed.{place_of}
 use Rattle.tablefile.proofs.Restored.{record_back}
 use Rattle.tablefile.proofs.Written.{long_buffer}
 use Rattle.tablefile.specs.Layout.{block_bytes, blocks_for, file_bytes, in_block, no_record, record_bytes}
-use Rattle.tablefile.specs.Numbers.{Whole, entry, numbers, records_for}
+use Rattle.tablefile.specs.Numbers.{AllFour, entry, numbers, records_for}
 use Rattle.tablefile.specs.Parts.{laid, part}
 use Rattle.tablefile.specs.Reading.{block_at, count_at, record_at, record_of, records_at, records_of}
 use Rattle.tablefile.specs.Refusing.{block_refusal, length_refusal}
@@ -40,6 +40,10 @@ blocks_some n = omega arith
 blocks_hold : (n : ℕ) → n ≤ 10 * blocks_for n
 blocks_hold n = omega arith
 
+-- the rows of the first blocks have four figures of X and of Y
+abbrev pub BlocksFour : List Row → ℕ → Type 0
+BlocksFour rows n = (k : ℕ) → k < n → AllFour (part (numbers rows) (10 * k) 10) rows
+
 module _ (board : Board) (rows : List Row) where
   abbrev file : List ℕ
   file = file_bytes board rows
@@ -63,8 +67,8 @@ module _ (board : Board) (rows : List Row) where
       sym (get_or-take 512 (drop (512 * k) file) 2 0 (omega arith) ∙ get_or-drop (512 * k) file 2 0)
       ∙ ap (λ b. get_or b 2 0) (block_found k h) ∙ count_found board k (in_block rows k)
 
-  entry_back : Whole rows → (k p : ℕ) → k < count → p < length (part (numbers rows) (10 * k) 10) → record_of (record_at file k p) ≡ entry rows (get_or (part (numbers rows) (10 * k) 10) p 0)
-  entry_back whole k p h l =
+  entry_back : (k p : ℕ) → AllFour (part (numbers rows) (10 * k) 10) rows → k < count → p < length (part (numbers rows) (10 * k) 10) → record_of (record_at file k p) ≡ entry rows (get_or (part (numbers rows) (10 * k) 10) p 0)
+  entry_back k p four h l =
       let ns = part (numbers rows) (10 * k) 10 in
       let ten : p < 10 = omega (arith, l, length-take 10 (drop (10 * k) (numbers rows))) in
       let at : 512 * k + 8 + 48 * p ≡ 512 * k + (8 + 48 * p) = omega arith in
@@ -75,28 +79,28 @@ module _ (board : Board) (rows : List Row) where
       ∙ ap (λ b. part b (8 + 48 * p) 48) (block_found k h)
       ∙ place_found board k p (in_block rows k) ten
       ∙ place_of rows ns p l in
-      ap record_of found ∙ record_back (entry rows (get_or ns p 0)) (task_holds rows (get_or ns p 0) task) (whole (get_or ns p 0) task)
+      ap record_of found ∙ record_back (entry rows (get_or ns p 0)) (task_holds rows (get_or ns p 0) task) (four p l)
 
   -- so the records of a block, and of the whole file, are those of the tasks
-  block_records : Whole rows → (k : ℕ) → k < count → records_at file k ≡ in_block rows k
-  block_records whole k h =
+  block_records : (k : ℕ) → AllFour (part (numbers rows) (10 * k) 10) rows → k < count → records_at file k ≡ in_block rows k
+  block_records k four h =
       let ns = part (numbers rows) (10 * k) 10 in
       let rs = in_block rows k in
       let many : length rs ≡ length ns = length-map ns (entry rows) in
       ap (λ n. laid n (λ p. record_of (record_at file k p) ∷ [])) (count_back k h)
       ∙ laid_same (length rs) (λ p. record_of (record_at file k p) ∷ []) (λ p. get_or rs p no_record ∷ [])
-      (λ p l. let in_ns : p < length ns = omega arith in ap (λ r. r ∷ []) (entry_back whole k p h in_ns ∙ sym (get_or-map (entry rows) ns p 0 no_record in_ns)))
+      (λ p l. let in_ns : p < length ns = omega arith in ap (λ r. r ∷ []) (entry_back k p four h in_ns ∙ sym (get_or-map (entry rows) ns p 0 no_record in_ns)))
       ∙ laid_ones (length rs) rs no_record (omega arith)
       ∙ take_all (length rs) rs (omega arith)
 
-  file_records : Whole rows → records_of file ≡ records_for rows (numbers rows)
+  file_records : BlocksFour rows count → records_of file ≡ records_for rows (numbers rows)
   unfolding records_of
-  file_records whole =
+  file_records four =
       let es = records_for rows (numbers rows) in
       let few : length es ≤ 10 * count = omega (arith, length-map (numbers rows) (entry rows), blocks_hold (length (numbers rows))) in
       ap (λ n. laid n (records_at file)) file_blocks
       ∙ laid_same count (records_at file) (λ k. take 10 (drop (10 * k) es))
-      (λ k h. block_records whole k h ∙ sym (take-map (entry rows) 10 (drop (10 * k) (numbers rows))) ∙ sym (ap (take 10) (drop-map (entry rows) (10 * k) (numbers rows))))
+      (λ k h. block_records k (four k h) h ∙ sym (take-map (entry rows) 10 (drop (10 * k) (numbers rows))) ∙ sym (ap (take 10) (drop-map (entry rows) (10 * k) (numbers rows))))
       ∙ laid_cut 10 count es
       ∙ take_all (10 * count) es few
 
@@ -114,11 +118,11 @@ module _ (board : Board) (rows : List Row) where
       let long : length file ≡ 512 * count = length_file board rows in
       rw (le-leb 1 (length file) (omega arith), le-leb (length file) 32768 (omega arith), eq-eqb (length file % 512) 0 (omega arith))
 
-  reads_back : Whole rows → ReadsBack board rows file
-  reads_back whole = record { length_passes = file_long; blocks_pass = file_sound; same_rows = file_records whole }
+  reads_back : BlocksFour rows count → ReadsBack board rows file
+  reads_back four = record { length_passes = file_long; blocks_pass = file_sound; same_rows = file_records four }
 
   -- the bytes told, from the front of the buffer
-  pub written_back : (out now : List ℕ) (n : ℕ) → Whole rows → length file ≤ length out → n ≡ length file → now ≡ buffer_after board rows out → ReadsBack board rows (take n now)
-  written_back out now n whole room e written =
+  pub written_back : (out now : List ℕ) (n : ℕ) → BlocksFour rows count → length file ≤ length out → n ≡ length file → now ≡ buffer_after board rows out → ReadsBack board rows (take n now)
+  written_back out now n four room e written =
       let front : take n now ≡ file = ap (take n) (written ∙ long_buffer board rows out room) ∙ take_at file (drop (length file) out) n (sym e) in
-      subst (λ xs. ReadsBack board rows xs) (sym front) (reads_back whole)
+      subst (λ xs. ReadsBack board rows xs) (sym front) (reads_back four)

@@ -1,7 +1,7 @@
 -- Numbers as bytes, and back.
-use Rattle.std.proofs.Common.{◌≡◌, ℕ, zero, suc, ◌+◌, ◌-◌, ◌*◌, ◌/◌, ◌%◌, ◌^◌, ◌<◌, ◌≤◌, List, [], ◌∷◌, ◌++◌, length, get_or, take, drop, sym, refl, ap, ◌∙◌, subst, div-lt_iff_lt-mul, pow-suc, arith}
+use Rattle.std.proofs.Common.{◌≡◌, ℕ, zero, suc, ◌+◌, ◌*◌, ◌/◌, ◌%◌, ◌^◌, ◌<◌, List, [], ◌∷◌, ◌++◌, length, get_or, take, sym, refl, ap, ◌∙◌, subst, div-lt_iff_lt-mul, pow-suc, arith}
 use Rattle.std.proofs.lemmas.Int.Digits.{number_push}
-use Rattle.std.proofs.lemmas.List.{get_or-drop, get_or-take, length-drop, length_push, length-take-le, take_all, take_more}
+use Rattle.std.proofs.lemmas.List.{get_or-take, length_push, length-take-le, take_all, take_more}
 use Rattle.tablefile.specs.Spelling.{spelled, spells}
 
 pub length_spelled : (w n : ℕ) → length (spelled w n) ≡ w
@@ -32,31 +32,9 @@ spelled_spells (suc w) bs e small =
     ∙ ap (λ xs. xs ++ (last ∷ [])) again
     ∙ whole
 
-pub two_spell : (bs : List ℕ) → 2 ≤ length bs → get_or bs 0 0 * 256 + get_or bs 1 0 ≡ spells (take 2 bs)
-two_spell [] h = absurd (omega arith)
-two_spell (a ∷ []) h = absurd (omega arith)
-two_spell (a ∷ b ∷ bs) h = omega arith
-
-pub four_spell : (bs : List ℕ) → 4 ≤ length bs → get_or bs 0 0 * 16777216 + get_or bs 1 0 * 65536 + get_or bs 2 0 * 256 + get_or bs 3 0 ≡ spells (take 4 bs)
-four_spell [] h = absurd (omega arith)
-four_spell (a ∷ []) h = absurd (omega arith)
-four_spell (a ∷ b ∷ []) h = absurd (omega arith)
-four_spell (a ∷ b ∷ c ∷ []) h = absurd (omega arith)
-four_spell (a ∷ b ∷ c ∷ d ∷ bs) h = omega arith
-
 pub four_spelled : (n : ℕ) → n / 16777216 % 256 ∷ n / 65536 % 256 ∷ n / 256 % 256 ∷ n % 256 ∷ [] ≡ spelled 4 n
 four_spelled n =
     let a : n / 16777216 ≡ n / 256 / 256 / 256 = omega arith in
     let b : n / 65536 ≡ n / 256 / 256 = omega arith in
     ap (λ x. x % 256 ∷ n / 65536 % 256 ∷ n / 256 % 256 ∷ n % 256 ∷ []) a
     ∙ ap (λ x. n / 256 / 256 / 256 % 256 ∷ x % 256 ∷ n / 256 % 256 ∷ n % 256 ∷ []) b
-
--- the last two bytes
-pub last_spell : (bs : List ℕ) (n : ℕ) → length bs ≡ n + 2 → get_or bs (length bs - 2) 0 * 256 + get_or bs (length bs - 1) 0 ≡ spells (drop n bs)
-last_spell bs n e =
-    let rest : length (drop n bs) ≡ 2 = length-drop n bs ∙ omega arith in
-    let first : get_or (drop n bs) 0 0 ≡ get_or bs (length bs - 2) 0 = get_or-drop n bs 0 0 ∙ ap (λ k. get_or bs k 0) (omega arith) in
-    let second : get_or (drop n bs) 1 0 ≡ get_or bs (length bs - 1) 0 = get_or-drop n bs 1 0 ∙ ap (λ k. get_or bs k 0) (omega arith) in
-    let both = two_spell (drop n bs) (omega arith) in
-    let whole : spells (take 2 (drop n bs)) ≡ spells (drop n bs) = ap spells (take_all 2 (drop n bs) (omega arith)) in
-    omega (arith, first, second, both, whole)

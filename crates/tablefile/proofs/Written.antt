@@ -1,14 +1,13 @@
 -- What writing a file answers and leaves, by whether the buffer is long enough; and the numbers chosen for a block.
-use Rattle.std.proofs.Common.{◌≡◌, ℕ, ◌+◌, ◌*◌, ◌<◌, ◌≤◌, cond, List, ◌++◌, length, get_or, take, drop, Ok, Err, sym, ap, ◌∙◌, subst, arith}
-use Rattle.std.proofs.lemmas.List.{length-take, length-take-le}
+use Rattle.std.proofs.Common.{◌≡◌, ℕ, ◌*◌, ◌<◌, ◌≤◌, cond, List, ◌++◌, length, get_or, drop, Ok, Err, sym, ap, ◌∙◌, subst}
 use Rattle.std.proofs.lemmas.Bool.{le-ltb, lt-ltb}
 use Rattle.table.specs.declared.board.Board.{Board}
 use Rattle.table.specs.declared.refusal.Refusal.TheVariants.{BufferTooShort}
 use Rattle.table.specs.declared.row.Row.{Row}
 use Rattle.tablefile.proofs.Numbered.{part_tasks, task_within}
-use Rattle.tablefile.specs.Layout.{blocks_for, file_bytes}
+use Rattle.tablefile.specs.Layout.{file_bytes}
 use Rattle.tablefile.specs.Numbers.{AllWithin, numbers}
-use Rattle.tablefile.specs.Parts.{part, pasted}
+use Rattle.tablefile.specs.Parts.{part}
 use Rattle.tablefile.specs.Writing.{buffer_after, write_answer}
 
 module _ (board : Board) (rows : List Row) where
@@ -29,22 +28,7 @@ module _ (board : Board) (rows : List Row) where
   pub long_buffer : (out : List ℕ) → length file ≤ length out → buffer_after board rows out ≡ file ++ drop (length file) out
   long_buffer out h = ap (λ b. cond b out (file ++ drop (length file) out)) (le-ltb (length out) (length file) h)
 
-  pub pasted_buffer : (out : List ℕ) → length file ≤ length out → pasted out 0 file ≡ buffer_after board rows out
-  unfolding pasted
-  pasted_buffer out h =
-      let here : 0 + length file ≡ length file = omega arith in
-      ap (λ k. file ++ drop k out) here ∙ sym (long_buffer out h)
-
--- the numbers chosen for a block
-pub chosen_few : (ns chosen : List ℕ) (k : ℕ) → chosen ≡ part ns (10 * k) 10 → length chosen ≤ 10
-chosen_few ns chosen k e = omega (arith, ap length e, length-take 10 (drop (10 * k) ns))
-
+-- the numbers chosen for a block are those of rows
 pub chosen_within : (rows : List Row) (chosen : List ℕ) (k : ℕ) → chosen ≡ part (numbers rows) (10 * k) 10 → AllWithin chosen rows
 chosen_within rows chosen k e =
     subst (λ ns. AllWithin ns rows) (sym e) (λ p h. task_within rows (get_or (part (numbers rows) (10 * k) 10) p 0) (part_tasks rows (10 * k) 10 p h))
-
--- the blocks for the numbers that were gathered are those of the file
-pub gathered_blocks : (rows : List Row) (list : List ℕ) (n blocks : ℕ) → take n list ≡ numbers rows → n ≤ 64 → length list ≡ 64 → blocks ≡ blocks_for n → blocks ≡ blocks_for (length (numbers rows))
-gathered_blocks rows list n blocks e few long needed =
-    let many : length (numbers rows) ≡ n = sym (ap length e) ∙ length-take-le n list (omega arith) in
-    needed ∙ ap blocks_for (sym many)

@@ -1,5 +1,5 @@
 -- Which rows a file holds: those of the tasks, by rising number.
-use Rattle.std.specs.Prelude.{◌≡◌, ℕ, zero, suc, ◌<◌, true, cond, List, [], ◌∷◌, ◌++◌, map, length, slice_index}
+use Rattle.std.specs.Prelude.{◌≡◌, ℕ, zero, suc, ◌<◌, cond, List, [], ◌∷◌, ◌++◌, map, length, slice_index}
 use Rattle.table.specs.Rows.{is_task, row_at}
 use Rattle.table.specs.declared.row.Figures.{Figures}
 use Rattle.table.specs.declared.row.Row.{Row}
@@ -31,6 +31,6 @@ pub record Four (f : Figures) : Type 0 where
   pub sensitivities : length f.sensitivity ≡ 4
   pub stresses : length f.stress ≡ 4
 
--- every task has four figures of X and of Y
-abbrev pub Whole : List Row → Type 0
-Whole rows = (n : ℕ) → is_task rows n ≡ true → Four (row_at rows n).figures
+-- the row of each of the numbers has four figures of X and of Y
+abbrev pub AllFour : List ℕ → List Row → Type 0
+AllFour ns rows = (p : ℕ) → p < length ns → Four (row_at rows (slice_index ns p)).figures

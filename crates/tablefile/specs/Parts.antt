@@ -1,5 +1,6 @@
--- Parts of a byte list: taken out, laid one after another, and written into a buffer.
-use Rattle.std.specs.Prelude.{ℕ, zero, suc, ◌+◌, Bool, true, ◌&&◌, List, [], ◌∷◌, ◌++◌, length, take, drop, replicate, ◌==◌}
+-- Parts of a byte list: taken out, and laid one after another.
+use Rattle.std.specs.Prelude.{ℕ, zero, suc, Bool, List, [], ◌++◌, take, drop, replicate, ◌==◌}
+use Rattle.std.specs.List.{list_all}
 
 -- n places from a place on, or those that there are
 abbrev pub part : List ℕ → ℕ → ℕ → List ℕ
@@ -16,9 +17,4 @@ zeros n = replicate n 0
 
 -- every byte is zero
 abbrev pub all_zero : List ℕ → Bool
-all_zero [] = true
-all_zero (b ∷ bs) = b == 0 && all_zero bs
-
--- a buffer after bytes were written at a place
-unfoldable pub pasted : List ℕ → ℕ → List ℕ → List ℕ
-pasted out at bytes = take at out ++ (bytes ++ drop (at + length bytes) out)
+all_zero bytes = list_all (λ b. b == 0) bytes

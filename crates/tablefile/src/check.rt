@@ -6,9 +6,7 @@ ghost use Rattle.std.specs.Prelude.{◌≡◌};
 pub(crate) fn reckon_check(bytes: &[u8]) -> u16
     ensures { result ≡ check_of bytes.now }
 {
-    let mut sum: u32 = 0;
-    for b in bytes {
-        sum = (sum + u32::from(*b)) % 65536;
-    }
-    sum as u16
+    bytes
+        .iter()
+        .fold(0, |sum: u16, b| sum.wrapping_add(u16::from(*b)))
 }

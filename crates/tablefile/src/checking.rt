@@ -1,7 +1,8 @@
 // The checks that a file has to pass: of its length, then of each block.
+ghost use Rattle.table.specs.Refusals.{done_unless};
 ghost use Rattle.tablefile.specs.Parts.{all_zero};
 ghost use Rattle.tablefile.specs.Refusing.{bears_number, block_refusal, check_stands, header_fits, length_refusal};
-ghost use Rattle.std.specs.Prelude.{◌≡◌, length};
+ghost use Rattle.std.specs.Prelude.{◌≡◌};
 
 use crate::check::reckon_check;
 use table::board::Board;
@@ -10,82 +11,67 @@ use table::refusal::Refusal;
 fn is_zero(bytes: &[u8]) -> bool
     ensures { result ≡ all_zero bytes.now }
 {
-    for b in bytes {
-        if *b != 0 {
-            return false;
-        }
-    }
-    true
+    bytes.iter().all(|b| *b == 0)
 }
 
-fn has_check(bytes: &[u8]) -> bool
-    requires { length bytes.now ≡ 512 }
-    ensures { result ≡ check_stands bytes.now }
+fn has_check(block: &[u8; 512]) -> bool
+    ensures { result ≡ check_stands block.now }
 {
-    match bytes {
-        [front @ .., high, low] => u16::from_be_bytes([*high, *low]) == reckon_check(front),
-        _ => unreachable(),
-    }
+    let [.., high, low] = block;
+    u16::from_be_bytes([*high, *low]) == reckon_check(&block[..510])
 }
 
-fn has_number(bytes: &[u8], number: u8) -> bool
-    requires { length bytes.now ≡ 512 }
-    ensures { result ≡ bears_number number bytes.now }
+fn has_number(block: &[u8; 512], number: u8) -> bool
+    ensures { result ≡ bears_number number block.now }
 {
-    match bytes {
-        [high, low, _rest @ ..] => u16::from_be_bytes([*high, *low]) == u16::from(number),
-        _ => unreachable(),
-    }
+    let [high, low, ..] = block;
+    u16::from_be_bytes([*high, *low]) == u16::from(number)
 }
 
-fn has_header(board: &Board, bytes: &[u8]) -> bool
-    requires { length bytes.now ≡ 512 }
-    ensures { result ≡ header_fits board.now bytes.now }
+fn has_header(board: &Board, block: &[u8; 512]) -> bool
+    ensures { result ≡ header_fits board.now block.now }
 {
-    match bytes {
-        [_, _, count, cores, resources, x, y, z, _rest @ ..] => {
-            (*count <= 10)
-                & (*cores == board.cores)
-                & (*resources == board.resources)
-                & (*x == 0)
-                & (*y == 0)
-                & (*z == 0)
-        }
-        _ => unreachable(),
-    }
+    let [_, _, count, cores, resources, x, y, z, ..] = block;
+    (*count <= 10)
+        & (*cores == board.cores)
+        & (*resources == board.resources)
+        & (*x == 0)
+        & (*y == 0)
+        & (*z == 0)
 }
 
 // Whether a file may have this length.
-pub fn check_length(length: usize) -> Option<Refusal>
-    ensures answer { result ≡ length_refusal «length» }
+pub fn check_length(length: usize) -> Result<(), Refusal>
+    ensures answer { result ≡ done_unless (length_refusal «length») }
 {
     if (1 <= length) & (length <= 32768) & (length % 512 == 0) {
-        None
+        Ok(())
     } else {
-        Some(Refusal::FileLength)
+        Err(Refusal::FileLength)
     }
 }
 
 // The first refusal that applies to the bytes of a block, made for a board and standing at a place
 // of a file.
-pub fn check_block(board: &Board, number: u8, bytes: &[u8]) -> Option<Refusal>
-    ensures answer { result ≡ block_refusal board.now number bytes.now }
+#[tactic(auto, unfolding(crate::specs::Refusing::block_refusal))]
+pub fn check_block(board: &Board, number: u8, bytes: &[u8]) -> Result<(), Refusal>
+    ensures answer { result ≡ done_unless (block_refusal board.now number bytes.now) }
 {
-    if bytes.len() != 512 {
-        return Some(Refusal::FileLength);
+    let Some(block) = bytes.as_array::<512>() else {
+        return Err(Refusal::FileLength);
+    };
+    if !has_check(block) {
+        return Err(Refusal::BlockCheck);
     }
-    if !has_check(bytes) {
-        return Some(Refusal::BlockCheck);
+    if !has_number(block, number) {
+        return Err(Refusal::BlockNumber);
     }
-    if !has_number(bytes, number) {
-        return Some(Refusal::BlockNumber);
+    if !has_header(board, block) {
+        return Err(Refusal::BlockLayout);
     }
-    if !has_header(board, bytes) {
-        return Some(Refusal::BlockLayout);
+    let from = 8 + 48 * block[2] as usize;
+    if !is_zero(&block[from..510]) {
+        return Err(Refusal::BlockLayout);
     }
-    let from = 8 + 48 * bytes[2] as usize;
-    if !is_zero(&bytes[from..510]) {
-        return Some(Refusal::BlockLayout);
-    }
-    None
+    Ok(())
 }

@@ -1,44 +1,32 @@
-// A record's 48 bytes, written at a place.
-ghost use Rattle.std.specs.Prelude.{◌≡◌, ◌+◌, ◌*◌, ◌≤◌, length};
-ghost use Rattle.tablefile.specs.Layout.{record_bytes, word_in};
-ghost use Rattle.tablefile.specs.Parts.{laid, pasted};
-ghost use Rattle.tablefile.specs.Spelling.{spelled};
+// A record's 48 bytes.
+ghost use Rattle.std.specs.Prelude.{◌≡◌};
+ghost use Rattle.tablefile.specs.Layout.{record_bytes, words};
+ghost use Rattle.tablefile.specs.Numbers.{Four};
 
-use crate::parts::put;
 use crate::records::Record;
+use table::row::Figures;
 
-// Writes a number as four bytes at a place.
-fn put_word(out: &mut [u8], at: usize, n: u32)
-    requires { at + 4 ≤ length out.old }
-    ensures { out.new ≡ pasted out.old at (spelled 4 n) }
+// The eleven numbers of a record, in the order of the file. An array's length is known where the
+// array is taken apart, and not inside a list of rows: so this says that there are four of each.
+fn words(f: &Figures) -> [u32; 11]
+    ensures answer { result ≡ words f.now }
+    ensures four { Four f.now }
 {
-    put(out, at, &n.to_be_bytes());
+    let [x0, x1, x2, x3] = f.sensitivity;
+    let [y0, y1, y2, y3] = f.stress;
+    [f.cost, f.period, f.deadline, x0, x1, x2, x3, y0, y1, y2, y3]
 }
 
-// Writes numbers one after another.
-fn put_words(out: &mut [u8], at: usize, words: &[u32])
-    requires { at + 4 * length words.now ≤ length out.old }
-    ensures { out.new ≡ pasted out.old at (laid (length words.now) (word_in words.now)) }
+// The bytes that spell a record.
+pub(crate) fn record_bytes(record: &Record) -> [u8; 48]
+    ensures answer { result ≡ record_bytes «record».now }
+    ensures four { Four «record».now.row.figures }
 {
-    for i in 0..words.len() {
-        put_word(out, at + 4 * i, words[i]);
+    let row = &record.row;
+    let mut bytes = [0; 48];
+    bytes[..4].copy_from_slice(&[record.number, row.core, row.rank, record.fourth]);
+    for (i, word) in words(&row.figures).iter().enumerate() {
+        bytes[4 + 4 * i..8 + 4 * i].copy_from_slice(&word.to_be_bytes());
     }
-}
-
-pub(crate) fn put_record(out: &mut [u8], at: usize, record: &Record)
-    requires { at + 48 ≤ length out.old }
-    ensures { out.new ≡ pasted out.old at (record_bytes «record».now) }
-{
-    let row = record.row;
-    let f = row.figures;
-    let x = f.sensitivity;
-    let y = f.stress;
-    put(out, at, &[record.number, row.core, row.rank, record.fourth]);
-    put_words(
-        out,
-        at + 4,
-        &[
-            f.cost, f.period, f.deadline, x[0], x[1], x[2], x[3], y[0], y[1], y[2], y[3],
-        ],
-    );
+    bytes
 }

@@ -20,8 +20,7 @@ impl<'a> Reader<'a> {
     pub fn blocks(&self) -> usize
         ensures answer { result ≡ length self.now.bytes.now / 512 }
     {
-        let bytes = self.bytes;
-        bytes.len() / 512
+        self.bytes.len() / 512
     }
 
     // The bytes of a block; fewer than 512 where the file ends first.
@@ -36,8 +35,7 @@ impl<'a> Reader<'a> {
         ensures answer { result ≡ count_at self.now.bytes.now number }
     {
         let at = 512 * number as usize + 2;
-        let bytes = self.bytes;
-        if at < bytes.len() { bytes[at] } else { 0 }
+        self.bytes.get(at).map_or(0, |count| *count)
     }
 
     // The bytes of a record, with its block and its position there. Ask for the count first: past

@@ -24,9 +24,7 @@ use tables::{show_board, show_tasks};
 
 // The board that the first block of a file states.
 fn board_of(bytes: &[u8]) -> Result<Board, Refusal> {
-    if let Some(refusal) = check_length(bytes.len()) {
-        return Err(refusal);
-    }
+    check_length(bytes.len())?;
     match bytes {
         [_, _, _, cores, resources, ..] => Board::new(*cores, *resources),
         _ => Err(Refusal::FileLength),

@@ -4,6 +4,7 @@ ghost use Rattle.std.specs.Prelude.{◌≡◌, ◌+◌, ◌*◌, ◌≤◌, IfOk
 ghost use Rattle.sheet.specs.Editing.{entered, entry_of};
 ghost use Rattle.sheet.specs.Loading.{Loads, after_load, block_steps, load_answer, record_refusal, record_steps, taken};
 ghost use Rattle.sheet.specs.State.{state_of, unless};
+ghost use Rattle.table.specs.Refusals.{done_unless};
 ghost use Rattle.tablefile.specs.Reading.{block_at};
 ghost use Rattle.tablefile.specs.Refusing.{block_refusal};
 
@@ -27,9 +28,9 @@ impl OpenSheet<'_> {
         self.put(&entry, record.fourth == 0)
     }
 
-    // Why a block is refused.
-    fn refuse_block(&self, reader: &Reader<'_>, block: u8) -> Option<Refusal>
-        ensures { result ≡ block_refusal self.now.board block (block_at reader.now.bytes.now block) }
+    // Whether a block passes the checks.
+    fn pass_block(&self, reader: &Reader<'_>, block: u8) -> Result<(), Refusal>
+        ensures { result ≡ done_unless (block_refusal self.now.board block (block_at reader.now.bytes.now block)) }
     {
         check_block(&self.board, block, reader.block(block))
     }
@@ -69,9 +70,9 @@ impl OpenSheet<'_> {
         ensures few { IfOk result (λ n. n ≤ before + 255) }
         ensures lent { self.new.rows.ghost_name ≡ self.old.rows.ghost_name }
     {
-        match self.refuse_block(reader, block) {
-            Some(cause) => Err(Stopped::at(cause, block, 0, before)),
-            None => self.load_records(reader, block, before),
+        match self.pass_block(reader, block) {
+            Err(cause) => Err(Stopped::at(cause, block, 0, before)),
+            Ok(()) => self.load_records(reader, block, before),
         }
     }
 
@@ -82,7 +83,7 @@ impl OpenSheet<'_> {
         ensures lent { self.new.rows.ghost_name ≡ self.old.rows.ghost_name }
         ensures loads { Loads (state_of self.old) bytes.now result (state_of self.new) }
     {
-        if let Some(cause) = check_length(bytes.len()) {
+        if let Err(cause) = check_length(bytes.len()) {
             return Err(Stopped::at(cause, 0, 0, 0));
         }
         let reader = Reader::new(bytes);

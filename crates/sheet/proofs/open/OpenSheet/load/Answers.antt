@@ -5,6 +5,7 @@ use Rattle.sheet.proofs.open.OpenSheet.load.Goals as goal
 use Rattle.sheet.specs.Loading.{Loaded, Loads, block_steps, loaded, on_refusal, steps, stop, taken}
 use Rattle.sheet.specs.State.{State, state_of}
 use Rattle.std.proofs.lemmas.Result.{err_from_is_err_and}
+use Rattle.table.proofs.Refused.{none_refused}
 use Rattle.tablefile.specs.Parts.{laid}
 use Rattle.tablefile.specs.Refusing.{length_refusal}
 
@@ -46,7 +47,7 @@ returns-in_err-entered c =
     subst (λ b. k + 1 ≤ length b / 512) c.new-reader.ensures.answer (omega (arith, c.loop-k-test.true, c.blocks-k-end.ensures.answer)) in
     let end : stopped after why ≡ loaded start bytes =
     sym (laid_stopped bytes start 0 (block_steps bytes) (k + 1) (length bytes / 512) after why blocks (laid_step bytes start 0 (block_steps bytes) k s n (stopped after why) c.loop-k.invariant.0 here))
-    ∙ sym (past_length start bytes (sym c.in_default.ensures.answer)) in
+    ∙ sym (past_length start bytes (none_refused _ c.in_default.ensures.answer)) in
     record {
       answer = told ∙ ap (λ (l : Loaded). l.told) end;
       after = ap (λ (l : Loaded). l.sheet) end;
@@ -61,7 +62,7 @@ returns c =
     let end : going (state_of c.loop-k.self) c.loop-k.entered ≡ loaded start bytes =
     sym c.loop-k.invariant.0
     ∙ ap (λ q. taken bytes start 0 (laid q (block_steps bytes))) (let z : c.loop-k.k ≡ length c.new-reader.result.bytes.now / 512 = omega (arith, c.loop-k-test.false, c.loop-k.auto.k-end, c.blocks-k-end.ensures.answer) in z ∙ ap (λ b. length b / 512) c.new-reader.ensures.answer)
-    ∙ sym (past_length start bytes (sym c.in_default.ensures.answer)) in
+    ∙ sym (past_length start bytes (none_refused _ c.in_default.ensures.answer)) in
     record {
       answer = ap (λ (l : Loaded). l.told) end;
       after = ap (λ (l : Loaded). l.sheet) end;
