@@ -1,5 +1,5 @@
 -- Calls one after the other, all by one test: what each answers, and the sheet after it.
-use Rattle.promise.specs.declared.call.Answer.TheVariants.{Amended, Entered, Judged, Loaded, Ordered, Unasked, Withdrawn}
+use Rattle.promise.specs.declared.call.Answer.TheVariants.{Amended, Entered, Judged, Loaded, Ordered, Withdrawn}
 use Rattle.promise.specs.declared.call.Answer.{Answer}
 use Rattle.promise.specs.declared.call.Call.TheVariants.{Amend, Enter, Judge, Load, Order, Withdraw}
 use Rattle.promise.specs.declared.call.Call.{Call}
@@ -30,10 +30,10 @@ after m wide s (Amend n f) = after_amend s n f
 after m wide s (Judge core) = after_judge m wide s core
 after m wide s (Order core) = after_order m wide s core
 
--- the answers of a list of calls
-abbrev pub answers_to : Meaning → Bool → State → List Call → List Answer
+-- the answers of a list of calls, each in the place that was kept for it
+abbrev pub answers_to : Meaning → Bool → State → List Call → List (Option Answer)
 answers_to m wide s [] = []
-answers_to m wide s (c ∷ cs) = answer_to m s c ∷ answers_to m wide (after m wide s c) cs
+answers_to m wide s (c ∷ cs) = Some (answer_to m s c) ∷ answers_to m wide (after m wide s c) cs
 
 -- the sheet after a list of calls
 abbrev pub after_all : Meaning → Bool → State → List Call → State
@@ -42,7 +42,6 @@ after_all m wide s (c ∷ cs) = after_all m wide (after m wide s c) cs
 
 -- why a call was refused, if it was
 abbrev pub refusal_in : Answer → Option Refusal
-refusal_in Unasked = None
 refusal_in (Entered (Ok done)) = None
 refusal_in (Entered (Err why)) = Some why
 refusal_in (Loaded (Ok n)) = None

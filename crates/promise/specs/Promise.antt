@@ -72,7 +72,7 @@ pub record SheetHolds (m : Meaning) (wide : Bool) (board : Board) (s : State) : 
   pub well_formed : WellFormed board s.rows
 
 -- every call was made
-pub record Finished (m : Meaning) (wide : Bool) (board : Board) (rows : List Row) (calls : List Call) (told : List Answer) (rows' : List Row) (told' : List Answer) (marks : List Mark) : Type 0 where
+pub record Finished (m : Meaning) (wide : Bool) (board : Board) (rows : List Row) (calls : List Call) (told : List (Option Answer)) (rows' : List Row) (told' : List (Option Answer)) (marks : List Mark) : Type 0 where
   pub room : length calls ≤ length told
   -- answers, rows and marks are those of the calls, one after the other; answers past the list, and rows from place 64
   -- on, are as they were
@@ -90,12 +90,12 @@ pub record Finished (m : Meaning) (wide : Bool) (board : Board) (rows : List Row
   pub marked_exactly : (p core : ℕ) → core < board.cores → (marked (after_all m wide (fresh board rows) (take p calls)).marks core ≡ true) ↔ MarkedSince wide core (events m wide (fresh board rows) (take p calls))
 
 -- no call was made, since there is no room for the answers
-pub record Unfinished (calls : List Call) (rows : List Row) (told : List Answer) (rows' : List Row) (told' : List Answer) (why : Refusal) : Type 0 where
+pub record Unfinished (calls : List Call) (rows : List Row) (told : List (Option Answer)) (rows' : List Row) (told' : List (Option Answer)) (why : Refusal) : Type 0 where
   pub short : length told < length calls
   pub cause : why ≡ BufferTooShort
   pub rows_same : rows' ≡ rows
   pub told_same : told' ≡ told
 
-abbrev pub Ran : Meaning → Bool → Board → List Row → List Call → List Answer → List Row → List Answer → Result (List Mark) Refusal → Type 0
+abbrev pub Ran : Meaning → Bool → Board → List Row → List Call → List (Option Answer) → List Row → List (Option Answer) → Result (List Mark) Refusal → Type 0
 Ran m wide board rows calls told rows' told' (Ok marks) = Finished m wide board rows calls told rows' told' marks
 Ran m wide board rows calls told rows' told' (Err why) = Unfinished calls rows told rows' told' why

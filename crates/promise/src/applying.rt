@@ -1,7 +1,7 @@
 // One call, and a list of calls, applied to an open sheet.
 ghost use Rattle.std.specs.Prelude.{◌≡◌, ◌≤◌, ◌++◌, length, drop};
 ghost use Rattle.promise.specs.Calls.{after, after_all, answer_to, answers_to};
-ghost use Rattle.sheet.specs.State.{state_of};
+ghost use Rattle.sheet.specs.State.{Becomes, state_of};
 
 use crate::call::{Answer, Call};
 use sheet::open::OpenSheet;
@@ -9,8 +9,7 @@ use table::testing::Test;
 
 pub(crate) fn apply<T: Test>(sheet: &mut OpenSheet<'_>, test: &T, call: &Call<'_>) -> Answer
     ensures answer { result ≡ answer_to (T.Test.meaning test.now) (state_of sheet.old) call.now }
-    ensures after { state_of sheet.new ≡ after (T.Test.meaning test.now) T.Test.wide (state_of sheet.old) call.now }
-    ensures lent { sheet.new.rows.ghost_name ≡ sheet.old.rows.ghost_name }
+    ensures after { Becomes sheet.old sheet.new (after (T.Test.meaning test.now) T.Test.wide (state_of sheet.old) call.now) }
 {
     match call {
         Call::Enter(entry) => Answer::Entered(sheet.enter(entry)),
@@ -27,14 +26,13 @@ pub(crate) fn apply_all<T: Test>(
     sheet: &mut OpenSheet<'_>,
     test: &T,
     calls: &[Call<'_>],
-    answers: &mut [Answer],
+    answers: &mut [Option<Answer>],
 )
     requires { length calls.now ≤ length answers.old }
     ensures answers { answers.new ≡ answers_to (T.Test.meaning test.now) T.Test.wide (state_of sheet.old) calls.now ++ drop (length calls.now) answers.old }
-    ensures after { state_of sheet.new ≡ after_all (T.Test.meaning test.now) T.Test.wide (state_of sheet.old) calls.now }
-    ensures lent { sheet.new.rows.ghost_name ≡ sheet.old.rows.ghost_name }
+    ensures after { Becomes sheet.old sheet.new (after_all (T.Test.meaning test.now) T.Test.wide (state_of sheet.old) calls.now) }
 {
-    for i in 0..calls.len() {
-        answers[i] = apply(sheet, test, &calls[i]);
+    for (i, call) in calls.iter().enumerate() {
+        answers[i] = Some(apply(sheet, test, call));
     }
 }

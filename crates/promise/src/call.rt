@@ -23,10 +23,8 @@ pub enum Call<'a> {
 }
 
 // What a call answers, by kind.
-#[derive(Clone, Copy)]
+#[derive(Clone, Copy, PartialEq, Eq, Debug)]
 pub enum Answer {
-    // No call has been made yet.
-    Unasked,
     Entered(Result<(), Refusal>),
     Loaded(Result<usize, Stopped>),
     Withdrawn(Result<(), Refusal>),
@@ -41,7 +39,6 @@ impl Answer {
         ensures answer { result ≡ refusal_in self.now }
     {
         match self {
-            Answer::Unasked => None,
             Answer::Entered(told) => told.err(),
             Answer::Loaded(Ok(_)) => None,
             Answer::Loaded(Err(stop)) => Some(stop.cause),

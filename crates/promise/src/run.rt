@@ -18,7 +18,7 @@ fn run_all<T: Test>(
     rows: &mut [Row],
     test: &T,
     calls: &[Call<'_>],
-    answers: &mut [Answer],
+    answers: &mut [Option<Answer>],
 ) -> [Mark; 8]
     requires { length calls.now ≤ length answers.old }
     ensures answers { answers.new ≡ answers_to (T.Test.meaning test.now) T.Test.wide (fresh board rows.old) calls.now ++ drop (length calls.now) answers.old }
@@ -37,7 +37,7 @@ pub fn run<T: Test>(
     rows: &mut [Row],
     test: &T,
     calls: &[Call<'_>],
-    answers: &mut [Answer],
+    answers: &mut [Option<Answer>],
 ) -> Result<[Mark; 8], Refusal>
     ensures promise { Ran (T.Test.meaning test.now) T.Test.wide board rows.old calls.now answers.old rows.new answers.new result }
 {

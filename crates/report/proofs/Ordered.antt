@@ -1,6 +1,6 @@
 -- The calls of the program, a load and then an ordering of each core of the board, come to what is printed: the load
 -- answers first, and the orderings are made one after the other.
-use Rattle.std.proofs.Common.{◌≡◌, ℕ, zero, suc, ◌+◌, ◌≤◌, Bool, true, false, cond, ltb, List, [], ◌∷◌, ◌++◌, get_or, take, Some, None, Ok, Err, Result, refl, ap, ◌∙◌, add-one, arith, Bor}
+use Rattle.std.proofs.Common.{◌≡◌, ℕ, zero, suc, ◌+◌, ◌≤◌, Bool, true, false, cond, ltb, List, [], ◌∷◌, ◌++◌, get_or, take, Some, None, Option, Ok, Err, Result, refl, ap, ◌∙◌, add-one, arith, Bor}
 use Rattle.bounds.specs.Bounds.{deadline_bound}
 use Rattle.ordering.specs.Search.{Outcome, ordered, refused}
 use Rattle.promise.specs.Calls.{after_all, answers_to}
@@ -40,7 +40,7 @@ in_turn s (suc (suc (suc (suc (suc (suc (suc (suc zero)))))))) l = refl
 in_turn s (suc (suc (suc (suc (suc (suc (suc (suc (suc n))))))))) l = absurd (omega arith)
 
 module _ (file : Bor (List ℕ)) (s : State) (n k : ℕ) (one_more : k ≡ n + 1) where
-  pub load_first : (rest : List Answer) (d : Answer) → get_or (answers_to deadline_bound true s (take k (Load file ∷ orders)) ++ rest) 0 d ≡ Loaded (load_answer s file.now)
+  pub load_first : (rest : List (Option Answer)) (d : Option Answer) → get_or (answers_to deadline_bound true s (take k (Load file ∷ orders)) ++ rest) 0 d ≡ Some (Loaded (load_answer s file.now))
   load_first rest d = ap (λ i. get_or (answers_to deadline_bound true s (take i (Load file ∷ orders)) ++ rest) 0 d) (one_more ∙ add-one n)
 
   pub then_orders : n ≤ 8 → after_all deadline_bound true s (take k (Load file ∷ orders)) ≡ ordered_cores (after_load s file.now) n
@@ -48,18 +48,18 @@ module _ (file : Bor (List ℕ)) (s : State) (n k : ℕ) (one_more : k ≡ n + 1
 
 -- by what the load answered
 
-some_stop : (board : Board) (bytes : List ℕ) (r : Result ℕ Stopped) (stop : Stopped) → stop_in (Loaded r) ≡ Some stop → after_loading board bytes r ≡ refused_line (number_of stop.cause) stop.entered
+some_stop : (board : Board) (bytes : List ℕ) (r : Result ℕ Stopped) (stop : Stopped) → stop_in (Some (Loaded r)) ≡ Some stop → after_loading board bytes r ≡ refused_line (number_of stop.cause) stop.entered
 some_stop board bytes (Ok n) stop e = let z : ◌≡◌ {A = ℕ} 0 1 = cc in absurd (omega arith)
 some_stop board bytes (Err why) stop e = let z : why ≡ stop = cc in ap (λ (p : Stopped). refused_line (number_of p.cause) p.entered) z
 
-no_stop : (board : Board) (bytes : List ℕ) (r : Result ℕ Stopped) → stop_in (Loaded r) ≡ None → after_loading board bytes r ≡ report_text deadline_bound (ordered_cores (after_load (blank board) bytes) board.cores)
+no_stop : (board : Board) (bytes : List ℕ) (r : Result ℕ Stopped) → stop_in (Some (Loaded r)) ≡ None → after_loading board bytes r ≡ report_text deadline_bound (ordered_cores (after_load (blank board) bytes) board.cores)
 no_stop board bytes (Ok n) e = refl
 no_stop board bytes (Err why) e = let z : ◌≡◌ {A = ℕ} 0 1 = cc in absurd (omega arith)
 
-pub prints_stop : (board : Board) (bytes : List ℕ) (stop : Stopped) → stop_in (Loaded (load_answer (blank board) bytes)) ≡ Some stop → printed_for board bytes ≡ refused_line (number_of stop.cause) stop.entered
+pub prints_stop : (board : Board) (bytes : List ℕ) (stop : Stopped) → stop_in (Some (Loaded (load_answer (blank board) bytes))) ≡ Some stop → printed_for board bytes ≡ refused_line (number_of stop.cause) stop.entered
 prints_stop board bytes stop e = some_stop board bytes (load_answer (blank board) bytes) stop e
 
-pub prints_report : (board : Board) (bytes : List ℕ) → stop_in (Loaded (load_answer (blank board) bytes)) ≡ None → printed_for board bytes ≡ report_text deadline_bound (ordered_cores (after_load (blank board) bytes) board.cores)
+pub prints_report : (board : Board) (bytes : List ℕ) → stop_in (Some (Loaded (load_answer (blank board) bytes))) ≡ None → printed_for board bytes ≡ report_text deadline_bound (ordered_cores (after_load (blank board) bytes) board.cores)
 prints_report board bytes e = no_stop board bytes (load_answer (blank board) bytes) e
 
 -- the board stays the same

@@ -1,7 +1,7 @@
 -- What the program prints for a file: a report, or one line that tells the refusal.
 use Rattle.std.specs.Prelude.{◌≡◌, ℕ, zero, suc, true, false, List, length, replicate, Some, None, Ok, Err, Option, Result, slice_index}
 use Rattle.bounds.specs.Bounds.{deadline_bound}
-use Rattle.promise.specs.declared.call.Answer.TheVariants.{Amended, Entered, Judged, Loaded, Ordered, Unasked, Withdrawn}
+use Rattle.promise.specs.declared.call.Answer.TheVariants.{Amended, Entered, Judged, Loaded, Ordered, Withdrawn}
 use Rattle.promise.specs.declared.call.Answer.{Answer}
 use Rattle.report.specs.Lines.{refused_line}
 use Rattle.report.specs.Report.{report_text}
@@ -26,15 +26,15 @@ ordered_cores s zero = s
 ordered_cores s (suc n) = after_order deadline_bound true (ordered_cores s n) n
 
 -- where a load stopped, if an answer is of one that did
-abbrev pub stop_in : Answer → Option Stopped
-stop_in Unasked = None
-stop_in (Entered r) = None
-stop_in (Loaded (Ok n)) = None
-stop_in (Loaded (Err stop)) = Some stop
-stop_in (Withdrawn r) = None
-stop_in (Amended r) = None
-stop_in (Judged r) = None
-stop_in (Ordered r) = None
+abbrev pub stop_in : Option Answer → Option Stopped
+stop_in None = None
+stop_in (Some (Entered r)) = None
+stop_in (Some (Loaded (Ok n))) = None
+stop_in (Some (Loaded (Err stop))) = Some stop
+stop_in (Some (Withdrawn r)) = None
+stop_in (Some (Amended r)) = None
+stop_in (Some (Judged r)) = None
+stop_in (Some (Ordered r)) = None
 
 -- what is printed once the load has answered
 abbrev pub after_loading : Board → List ℕ → Result ℕ Stopped → List ℕ

@@ -5,7 +5,7 @@ use Rattle.table.specs.declared.refusal.Refusal.TheVariants.{BufferTooShort}
 use Rattle.table.specs.declared.refusal.Refusal.{Refusal}
 
 abbrev pub shown : Text → List ℕ
-shown t = take t.len t.bytes
+shown t = t.bytes.items
 
 -- how many bytes a text has, or the refusal of a buffer that is too short
 abbrev pub copy_answer : List ℕ → ℕ → Result ℕ Refusal

@@ -27,11 +27,11 @@ fn refused(refusal: Refusal, entered: u64) -> Text
 }
 
 // Where a load stopped, if the answer is of one that did.
-fn stop_of(answer: &Answer) -> Option<Stopped>
+fn stop_of(answer: &Option<Answer>) -> Option<Stopped>
     ensures { result ≡ stop_in answer.now }
 {
     match answer {
-        Answer::Loaded(Err(stop)) => Some(*stop),
+        Some(Answer::Loaded(Err(stop))) => Some(*stop),
         _ => None,
     }
 }
@@ -41,7 +41,7 @@ fn analyse_for(board: Board, bytes: &[u8]) -> Text
     ensures { shown result ≡ printed_for board bytes.now }
 {
     let mut rows = [Row::EMPTY; 64];
-    let mut answers = [Answer::Unasked; 9];
+    let mut answers = [None; 9];
     let calls = [
         Call::Load(bytes),
         Call::Order(0),

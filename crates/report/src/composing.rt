@@ -8,16 +8,16 @@ ghost use Rattle.tablefile.specs.Parts.{laid};
 use crate::lines::{push_core, push_head, push_task};
 use crate::text::Text;
 use sheet::marks::Mark;
+use table::asking::Asking;
 use table::board::Board;
 use table::row::Row;
-use table::set::TaskSet;
 use table::tasks::is_task;
 use table::testing::Test;
 
 fn push_cores(text: &mut Text, board: &Board, marks: &[Mark; 8])
-    requires { text.old.len + 320 ≤ 8192 }
+    requires { length (shown text.old) + 320 ≤ 8192 }
     ensures shows { shown text.new ≡ shown text.old ++ laid board.now.cores (line_of_core marks.now) }
-    ensures near { text.new.len ≤ text.old.len + 320 }
+    ensures near { length (shown text.new) ≤ length (shown text.old) + 320 }
 {
     for k in 0..board.cores {
         push_core(text, k, marks[k as usize].is_standing());
@@ -25,25 +25,24 @@ fn push_cores(text: &mut Text, board: &Board, marks: &[Mark; 8])
 }
 
 // The line of a number, if it has a task.
-fn push_number<T: Test>(text: &mut Text, test: &T, prepared: &T::Prepared, rows: &[Row], number: u8)
-    requires { text.old.len + 84 ≤ 8192 }
-    ensures shows { shown text.new ≡ shown text.old ++ line_of_number (T.Test.answers test.now prepared.now) rows.now number }
-    ensures near { text.new.len ≤ text.old.len + 84 }
+fn push_number<T: Test>(text: &mut Text, asking: &Asking<'_, T>, number: u8)
+    requires { length (shown text.old) + 84 ≤ 8192 }
+    ensures shows { shown text.new ≡ shown text.old ++ line_of_number (T.Test.meaning asking.now.test.now asking.now.board asking.now.rows.now) asking.now.rows.now number }
+    ensures near { length (shown text.new) ≤ length (shown text.old) + 84 }
 {
     let n = number as usize;
+    let rows = asking.rows();
     if is_task(rows, n) && n < rows.len() {
-        let above = TaskSet::higher_ranked(rows, n);
-        let bound = test.ask(prepared, n, &above);
-        push_task(text, number, &rows[n], bound);
+        push_task(text, number, &rows[n], asking.ask_ranked(n));
     }
 }
 
-fn push_numbers<T: Test>(text: &mut Text, test: &T, prepared: &T::Prepared, rows: &[Row])
-    requires { text.old.len + 5376 ≤ 8192 }
-    ensures shows { shown text.new ≡ shown text.old ++ laid 64 (line_of_number (T.Test.answers test.now prepared.now) rows.now) }
+fn push_numbers<T: Test>(text: &mut Text, asking: &Asking<'_, T>)
+    requires { length (shown text.old) + 5376 ≤ 8192 }
+    ensures shows { shown text.new ≡ shown text.old ++ laid 64 (line_of_number (T.Test.meaning asking.now.test.now asking.now.board asking.now.rows.now) asking.now.rows.now) }
 {
     for number in 0..64 {
-        push_number(text, test, prepared, rows, number);
+        push_number(text, asking, number);
     }
 }
 
@@ -51,10 +50,10 @@ fn push_numbers<T: Test>(text: &mut Text, test: &T, prepared: &T::Prepared, rows
 pub(crate) fn compose<T: Test>(board: &Board, rows: &[Row], marks: &[Mark; 8], test: &T) -> Text
     ensures answer { shown result ≡ report_text (T.Test.meaning test.now) (record { board = board.entry.now; rows = rows.now; marks = marks.now }) }
 {
-    let prepared = test.prepare(board, rows);
+    let asking = Asking::new(test, board, rows);
     let mut text = Text::new();
     push_head(&mut text, board);
     push_cores(&mut text, board, marks);
-    push_numbers(&mut text, test, &prepared, rows);
+    push_numbers(&mut text, &asking);
     text
 }

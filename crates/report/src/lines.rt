@@ -9,9 +9,9 @@ use table::board::Board;
 use table::row::Row;
 
 pub(crate) fn push_head(text: &mut Text, board: &Board)
-    requires { text.old.len + 60 ≤ 8192 }
+    requires { length (shown text.old) + 60 ≤ 8192 }
     ensures shows { shown text.new ≡ shown text.old ++ head_line board.now }
-    ensures near { text.new.len ≤ text.old.len + 60 }
+    ensures near { length (shown text.new) ≤ length (shown text.old) + 60 }
 {
     text.push_bytes(b"cores ");
     text.push_decimal(u64::from(board.cores));
@@ -28,9 +28,9 @@ fn word_of(standing: bool) -> &'static [u8]
 }
 
 pub(crate) fn push_core(text: &mut Text, core: u8, standing: bool)
-    requires { text.old.len + 40 ≤ 8192 }
+    requires { length (shown text.old) + 40 ≤ 8192 }
     ensures shows { shown text.new ≡ shown text.old ++ core_line core standing }
-    ensures near { text.new.len ≤ text.old.len + 40 }
+    ensures near { length (shown text.new) ≤ length (shown text.old) + 40 }
 {
     text.push_bytes(b"core ");
     text.push_decimal(u64::from(core));
@@ -40,9 +40,9 @@ pub(crate) fn push_core(text: &mut Text, core: u8, standing: bool)
 }
 
 fn push_bound(text: &mut Text, bound: Option<u32>)
-    requires { text.old.len + 20 ≤ 8192 }
+    requires { length (shown text.old) + 20 ≤ 8192 }
     ensures shows { shown text.new ≡ shown text.old ++ bound_word bound }
-    ensures near { text.new.len ≤ text.old.len + 20 }
+    ensures near { length (shown text.new) ≤ length (shown text.old) + 20 }
 {
     match bound {
         Some(time) => text.push_decimal(u64::from(time)),
@@ -51,9 +51,9 @@ fn push_bound(text: &mut Text, bound: Option<u32>)
 }
 
 pub(crate) fn push_task(text: &mut Text, number: u8, row: &Row, bound: Option<u32>)
-    requires { text.old.len + 84 ≤ 8192 }
+    requires { length (shown text.old) + 84 ≤ 8192 }
     ensures shows { shown text.new ≡ shown text.old ++ task_line number row.now bound }
-    ensures near { text.new.len ≤ text.old.len + 84 }
+    ensures near { length (shown text.new) ≤ length (shown text.old) + 84 }
 {
     text.push_decimal(u64::from(number));
     text.push_bytes(b" ");
@@ -66,7 +66,7 @@ pub(crate) fn push_task(text: &mut Text, number: u8, row: &Row, bound: Option<u3
 }
 
 pub(crate) fn push_refused(text: &mut Text, number: u8, entered: u64)
-    requires { text.old.len + 60 ≤ 8192 }
+    requires { length (shown text.old) + 60 ≤ 8192 }
     ensures { shown text.new ≡ shown text.old ++ refused_line number entered }
 {
     text.push_bytes(b"refused ");

@@ -1,11 +1,9 @@
 // Text that is put together in memory of its own: at most 8,192 bytes, more than any report has.
-ghost use Rattle.std.specs.Prelude.{◌≤◌};
+use arrayvec::ArrayVec;
 
 mod adding;
 
-#[derive(Clone, Copy)]
+#[derive(Drop)]
 pub struct Text {
-    bytes: [u8; 8192],
-    len: usize,
-    ghost few: { len ≤ 8192 },
+    bytes: ArrayVec<u8, 8192>,
 }

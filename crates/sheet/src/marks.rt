@@ -16,28 +16,24 @@ impl Mark {
     pub fn is_standing(self) -> bool
         ensures answer { result ≡ stands self }
     {
-        match self {
-            Mark::Loose => false,
-            Mark::OwnCore => true,
-            Mark::Wide => true,
-        }
+        matches!(self, Mark::OwnCore | Mark::Wide)
     }
-}
 
-// The mark by a test that is wide or not.
-pub(crate) fn mark_of(wide: bool) -> Mark
-    ensures { result ≡ standing wide }
-{
-    if wide { Mark::Wide } else { Mark::OwnCore }
-}
+    // The mark by a test that is wide or not.
+    pub(crate) fn standing(wide: bool) -> Mark
+        ensures { result ≡ standing wide }
+    {
+        if wide { Mark::Wide } else { Mark::OwnCore }
+    }
 
-// What a change on another core leaves of a mark.
-fn narrow(mark: Mark) -> Mark
-    ensures { result ≡ narrowed mark }
-{
-    match mark {
-        Mark::Wide => Mark::Loose,
-        _ => mark,
+    // What a change on another core leaves of it.
+    fn narrowed(self) -> Mark
+        ensures { result ≡ narrowed self }
+    {
+        match self {
+            Mark::Wide => Mark::Loose,
+            _ => self,
+        }
     }
 }
 
@@ -45,12 +41,11 @@ fn narrow(mark: Mark) -> Mark
 pub(crate) fn loosen(marks: &mut [Mark; 8], core: u8)
     ensures { marks.new ≡ loosened marks.old core }
 {
-    for k in 0..8 {
-        let mark = marks[k];
-        marks[k] = narrow(mark);
+    for mark in marks.iter_mut() {
+        *mark = mark.narrowed();
     }
     let own = core as usize;
-    if own < 8 {
+    if own < marks.len() {
         marks[own] = Mark::Loose;
     }
 }

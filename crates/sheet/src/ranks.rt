@@ -12,12 +12,7 @@ use table::tasks::NUMBERS;
 fn find_holder(rows: &[Row], tasks: &TaskSet, rank: u8) -> Option<usize>
     ensures { result ≡ rank_holder rows.now (members tasks.now) rank }
 {
-    for k in 0..NUMBERS {
-        if tasks.has(k) & (rank_at(rows, k) == rank) {
-            return Some(k);
-        }
-    }
-    None
+    (0..NUMBERS).find(|number| tasks.has(*number) & (rank_at(rows, *number) == rank))
 }
 
 // From 1 to 64, and no task of the core has it.

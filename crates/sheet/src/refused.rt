@@ -1,6 +1,7 @@
 // Why a load, a judging or an ordering is refused, with what is told of it.
 ghost use Rattle.sheet.specs.Loading.{stop};
 ghost use Rattle.sheet.specs.Refused.{layer_of, refusal_of_judge, refusal_of_order};
+ghost use Rattle.sheet.specs.declared.refused.NotOrdered.TheVariants as not_ordered;
 ghost use Rattle.std.specs.Prelude.{◌≡◌};
 
 use ordering::order::NoOrder;
@@ -19,20 +20,20 @@ impl Layer {
     pub fn of(cause: Refusal) -> Layer
         ensures answer { result ≡ layer_of cause }
     {
-        let number = cause.number();
-        if (2 <= number) & (number <= 5) {
-            Layer::Block
-        } else if number == 6 {
-            Layer::Row
-        } else {
-            Layer::Sheet
+        match cause {
+            Refusal::FileLength
+            | Refusal::BlockCheck
+            | Refusal::BlockNumber
+            | Refusal::BlockLayout => Layer::Block,
+            Refusal::FigureLimits => Layer::Row,
+            _ => Layer::Sheet,
         }
     }
 }
 
 // Where and why a load stopped. Blocks and the records of a block count from 0; either is 0 where
 // it does not apply.
-#[derive(Clone, Copy)]
+#[derive(Clone, Copy, PartialEq, Eq, Debug)]
 pub struct Stopped {
     pub layer: Layer,
     pub cause: Refusal,
@@ -58,7 +59,7 @@ impl Stopped {
 }
 
 // Why a judging is refused.
-#[derive(Clone, Copy)]
+#[derive(Clone, Copy, PartialEq, Eq, Debug)]
 pub enum NotPassing {
     CoreLacking,
     // The task of highest rank without a bound.
@@ -78,11 +79,19 @@ impl NotPassing {
 }
 
 // Why an ordering is refused.
-#[derive(Clone, Copy)]
+#[derive(Clone, Copy, PartialEq, Eq, Debug)]
 pub enum NotOrdered {
     CoreLacking,
     // The trials, and how many tasks are still unplaced.
     NoOrder(NoOrder),
+}
+
+impl From<NoOrder> for NotOrdered {
+    ghost from_gives = { λ none told. told ≡ not_ordered.NoOrder none };
+
+    fn from(none: NoOrder) -> NotOrdered {
+        NotOrdered::NoOrder(none)
+    }
 }
 
 impl NotOrdered {

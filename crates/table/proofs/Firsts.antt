@@ -1,7 +1,11 @@
 -- What `first_that` finds: by induction over the numbers that were looked at, the first that passes, and none exactly
 -- when none of them does.
-use Rattle.std.proofs.Common.{◌≡◌, ℕ, zero, suc, ◌+◌, ◌-◌, ◌<◌, ◌≤◌, Bool, true, false, cond, Some, None, Option, refl, subst, ⊎_elim, suc-add, zero-add, add-one, arith}
+use Rattle.std.proofs.Common.{◌≡◌, ℕ, zero, suc, ◌+◌, ◌-◌, ◌<◌, ◌≤◌, Bool, true, false, cond, [], ◌∷◌, map, Some, None, Option, sym, refl, ap, ◌∙◌, subst, ⊎_elim, suc-add, zero-add, add-one, arith}
 use Rattle.std.proofs.lemmas.Bool.{both_ways, cases_lt}
+use Rattle.std.proofs.lemmas.List.Folds.{find-append}
+use Rattle.std.proofs.lemmas.List.FromFn.{map-range_with_len_more}
+use Rattle.std.specs.List.{find, range_with_len}
+use Rattle.std.specs.Option.{option_or}
 use Rattle.table.specs.Firsts.{first_that, or_else}
 
 module _ (test : ℕ → Bool) where
@@ -52,3 +56,18 @@ module _ (test : ℕ → Bool) where
   -- once there is one, more numbers change nothing
   pub first_stays : (n m k : ℕ) → n ≤ m → first_that test n ≡ Some k → first_that test m ≡ Some k
   first_stays n m k l e = let z : (m - n) + n ≡ m = omega arith in subst (λ x. first_that test x ≡ Some k) z (stays n k (m - n) e)
+
+  -- to find it is to look through the numbers in turn
+  one_more : (o : Option ℕ) (n : ℕ) → option_or o (find test (n ∷ [])) ≡ or_else o (test n) n
+  one_more None n = refl
+  one_more (Some k) n = refl
+
+  pub find_first : (n : ℕ) → find test (map (λ k. k) (range_with_len 0 n)) ≡ first_that test n
+  unfolding first_that
+  find_first zero = refl
+  find_first (suc n) =
+      ap (λ m. find test (map (λ k. k) (range_with_len 0 m))) (sym (add-one n))
+      ∙ ap (find test) (map-range_with_len_more (λ k. k) 0 n n (zero-add n))
+      ∙ find-append test (map (λ k. k) (range_with_len 0 n)) (n ∷ [])
+      ∙ ap (λ o. option_or o (find test (n ∷ []))) (find_first n)
+      ∙ one_more (first_that test n) n

@@ -1,18 +1,17 @@
 // Text made, added to, read and copied.
-ghost use Rattle.std.specs.Prelude.{◌≡◌, ◌+◌, ◌≤◌, [], ◌∷◌, ◌++◌, length, decimal};
+ghost use Rattle.std.specs.Prelude.{◌≡◌, ◌+◌, ◌≤◌, [], ◌++◌, length, decimal};
 ghost use Rattle.report.specs.Texts.{copied, copy_answer, shown};
 
 use crate::text::Text;
+use arrayvec::ArrayVec;
 use table::refusal::Refusal;
 
 impl Text {
     pub(crate) fn new() -> Text
         ensures shows { shown result ≡ [] }
-        ensures long { result.len ≡ 0 }
     {
         Text {
-            bytes: [0; 8192],
-            len: 0,
+            bytes: ArrayVec::new(),
         }
     }
 
@@ -20,7 +19,7 @@ impl Text {
     pub fn as_bytes(&self) -> &[u8]
         ensures answer { result.now ≡ shown self.now }
     {
-        &self.bytes[0..self.len]
+        self.bytes.as_slice()
     }
 
     // Copies it to the front of a buffer, and tells how many bytes it has. What is behind is left; a
@@ -37,37 +36,24 @@ impl Text {
         Ok(text.len())
     }
 
-    fn push(&mut self, byte: u8)
-        requires { self.old.len + 1 ≤ 8192 }
-        ensures shows { shown self.new ≡ shown self.old ++ byte ∷ [] }
-        ensures long { self.new.len ≡ self.old.len + 1 }
-    {
-        self.bytes[self.len] = byte;
-        self.len += 1;
-    }
-
+    // There is room for them, so none is left out.
     pub(crate) fn push_bytes(&mut self, bytes: &[u8])
-        requires { self.old.len + length bytes.now ≤ 8192 }
+        requires { length (shown self.old) + length bytes.now ≤ 8192 }
         ensures shows { shown self.new ≡ shown self.old ++ bytes.now }
-        ensures long { self.new.len ≡ self.old.len + length bytes.now }
+        ensures long { length (shown self.new) ≡ length (shown self.old) + length bytes.now }
     {
-        for b in bytes {
-            self.push(*b);
-        }
+        let _ = self.bytes.try_extend_from_slice(bytes);
     }
 
     // A number in decimal: at most twenty digits.
     pub(crate) fn push_decimal(&mut self, n: u64)
-        requires { self.old.len + 20 ≤ 8192 }
+        requires { length (shown self.old) + 20 ≤ 8192 }
         ensures shows { shown self.new ≡ shown self.old ++ decimal n }
-        ensures long { self.new.len ≡ self.old.len + length (decimal n) }
-        ensures near { self.new.len ≤ self.old.len + 20 }
+        ensures near { length (shown self.new) ≤ length (shown self.old) + 20 }
     {
-        if n < 10 {
-            self.push(b'0' + n as u8);
-        } else {
+        if n >= 10 {
             self.push_decimal(n / 10);
-            self.push(b'0' + (n % 10) as u8);
         }
+        self.bytes.push(b'0' + (n % 10) as u8);
     }
 }

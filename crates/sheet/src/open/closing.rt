@@ -1,5 +1,5 @@
 // Closing a sheet.
-ghost use Rattle.sheet.specs.State.{closed_state, state_of};
+ghost use Rattle.sheet.specs.State.{IsLentAs, closed_state, state_of};
 ghost use Rattle.std.specs.Prelude.{◌≡◌};
 
 use crate::closed::ClosedSheet;
@@ -9,9 +9,8 @@ impl<'a> OpenSheet<'a> {
     // Closes the sheet, with rows and marks as they are.
     pub fn close(self) -> ClosedSheet<'a>
         ensures after { closed_state result ≡ state_of self.entry }
-        ensures lent { result.rows.ghost_name ≡ self.entry.rows.ghost_name }
+        ensures lent { IsLentAs self.entry result.sheet }
     {
-        let OpenSheet { board, rows, marks } = self;
-        ClosedSheet { board, rows, marks }
+        ClosedSheet { sheet: self }
     }
 }

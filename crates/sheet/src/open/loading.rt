@@ -3,7 +3,7 @@
 ghost use Rattle.std.specs.Prelude.{◌≡◌, ◌+◌, ◌*◌, ◌≤◌, IfOk};
 ghost use Rattle.sheet.specs.Editing.{entered, entry_of};
 ghost use Rattle.sheet.specs.Loading.{Loads, after_load, block_steps, load_answer, record_refusal, record_steps, taken};
-ghost use Rattle.sheet.specs.State.{state_of, unless};
+ghost use Rattle.sheet.specs.State.{Becomes, IsLentAs, state_of, unless};
 ghost use Rattle.table.specs.Refusals.{done_unless};
 ghost use Rattle.tablefile.specs.Reading.{block_at};
 ghost use Rattle.tablefile.specs.Refusing.{block_refusal};
@@ -19,17 +19,15 @@ use tablefile::records::Record;
 
 impl OpenSheet<'_> {
     // Enters a record unless something refuses it; its fourth byte has to be zero.
-    fn put_record(&mut self, record: &Record) -> Option<Refusal>
-        ensures answer { result ≡ record_refusal (state_of self.old) «record».now }
-        ensures after { state_of self.new ≡ unless (record_refusal (state_of self.old) «record».now) (entered (state_of self.old) (entry_of «record».now)) (state_of self.old) }
-        ensures lent { self.new.rows.ghost_name ≡ self.old.rows.ghost_name }
+    fn put_record(&mut self, record: &Record) -> Result<(), Refusal>
+        ensures answer { result ≡ done_unless (record_refusal (state_of self.old) «record».now) }
+        ensures after { Becomes self.old self.new (unless (record_refusal (state_of self.old) «record».now) (entered (state_of self.old) (entry_of «record».now)) (state_of self.old)) }
     {
-        let entry = Entry::of(record);
-        self.put(&entry, record.fourth == 0)
+        self.put(&Entry::of(record), record.fourth == 0)
     }
 
     // Whether a block passes the checks.
-    fn pass_block(&self, reader: &Reader<'_>, block: u8) -> Result<(), Refusal>
+    fn check_block(&self, reader: &Reader<'_>, block: u8) -> Result<(), Refusal>
         ensures { result ≡ done_unless (block_refusal self.now.board block (block_at reader.now.bytes.now block)) }
     {
         check_block(&self.board, block, reader.block(block))
@@ -45,14 +43,14 @@ impl OpenSheet<'_> {
         requires { before ≤ 255 * block }
         ensures loads { record { sheet = state_of self.new; told = result } ≡ taken reader.now.bytes.now (state_of self.old) before (record_steps reader.now.bytes.now block) }
         ensures few { IfOk result (λ n. n ≤ before + 255) }
-        ensures lent { self.new.rows.ghost_name ≡ self.old.rows.ghost_name }
+        ensures lent { IsLentAs self.old self.new }
     {
         let mut entered = before;
         for position in 0..reader.count(block) {
             let (bytes, block, record) = reader.record(block, position);
             match self.put_record(&decode(bytes)) {
-                Some(cause) => return Err(Stopped::at(cause, block, record, entered)),
-                None => entered += 1,
+                Ok(()) => entered += 1,
+                Err(cause) => return Err(Stopped::at(cause, block, record, entered)),
             }
         }
         Ok(entered)
@@ -68,19 +66,18 @@ impl OpenSheet<'_> {
         requires { before ≤ 255 * block }
         ensures loads { record { sheet = state_of self.new; told = result } ≡ taken reader.now.bytes.now (state_of self.old) before (block_steps reader.now.bytes.now block) }
         ensures few { IfOk result (λ n. n ≤ before + 255) }
-        ensures lent { self.new.rows.ghost_name ≡ self.old.rows.ghost_name }
+        ensures lent { IsLentAs self.old self.new }
     {
-        match self.pass_block(reader, block) {
-            Err(cause) => Err(Stopped::at(cause, block, 0, before)),
+        match self.check_block(reader, block) {
             Ok(()) => self.load_records(reader, block, before),
+            Err(cause) => Err(Stopped::at(cause, block, 0, before)),
         }
     }
 
     // Loads a file. The records that were entered are counted, also where the load is refused.
     pub fn load(&mut self, bytes: &[u8]) -> Result<usize, Stopped>
         ensures answer { result ≡ load_answer (state_of self.old) bytes.now }
-        ensures after { state_of self.new ≡ after_load (state_of self.old) bytes.now }
-        ensures lent { self.new.rows.ghost_name ≡ self.old.rows.ghost_name }
+        ensures after { Becomes self.old self.new (after_load (state_of self.old) bytes.now) }
         ensures loads { Loads (state_of self.old) bytes.now result (state_of self.new) }
     {
         if let Err(cause) = check_length(bytes.len()) {
@@ -88,8 +85,8 @@ impl OpenSheet<'_> {
         }
         let reader = Reader::new(bytes);
         let mut entered = 0;
-        for k in 0..reader.blocks() {
-            entered = self.load_block(&reader, k as u8, entered)?;
+        for block in 0..reader.blocks() {
+            entered = self.load_block(&reader, block as u8, entered)?;
         }
         Ok(entered)
     }

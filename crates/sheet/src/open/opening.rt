@@ -15,9 +15,7 @@ impl<'a> OpenSheet<'a> {
         ensures lent { result.rows.ghost_name ≡ rows.entry.ghost_name }
     {
         let n = capacity_of(rows);
-        for i in 0..n {
-            rows[i] = Row::EMPTY;
-        }
+        rows[..n].fill(Row::EMPTY);
         OpenSheet {
             board,
             rows,

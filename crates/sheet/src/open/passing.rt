@@ -4,11 +4,11 @@ ghost use Rattle.ordering.specs.Search.{FewTrials};
 ghost use Rattle.ordering.specs.Told.{outcome_of};
 ghost use Rattle.ordering.specs.Writing.{OrdersCore, after_search};
 ghost use Rattle.sheet.specs.Passing.{JudgedSo, OrderedSo, after_judge, after_order, asked, judge_answer, order_answer, searched};
-ghost use Rattle.sheet.specs.State.{state_of};
+ghost use Rattle.sheet.specs.State.{Becomes, IsLentAs, state_of};
 ghost use Rattle.table.specs.Rows.{on_core};
 ghost use Rattle.std.specs.Prelude.{◌≡◌};
 
-use crate::marks::mark_of;
+use crate::marks::Mark;
 use crate::open::OpenSheet;
 use crate::refused::{NotOrdered, NotPassing};
 use ordering::judging::find_unbound;
@@ -28,8 +28,7 @@ impl OpenSheet<'_> {
     // Marks the core standing if its present ranks pass.
     pub fn judge<T: Test>(&mut self, core: u8, test: &T) -> Result<(), NotPassing>
         ensures answer { result ≡ judge_answer (T.Test.meaning test.now) (state_of self.old) core }
-        ensures after { state_of self.new ≡ after_judge (T.Test.meaning test.now) T.Test.wide (state_of self.old) core }
-        ensures lent { self.new.rows.ghost_name ≡ self.old.rows.ghost_name }
+        ensures after { Becomes self.old self.new (after_judge (T.Test.meaning test.now) T.Test.wide (state_of self.old) core) }
         ensures judges { JudgedSo (T.Test.meaning test.now) (state_of self.old) core result }
     {
         if core >= self.board.cores {
@@ -38,7 +37,7 @@ impl OpenSheet<'_> {
         match self.unbound_on(core, test) {
             Some(number) => Err(NotPassing::NoBound(number)),
             None => {
-                self.marks[core as usize] = mark_of(test.is_wide());
+                self.marks[core as usize] = Mark::standing(test.is_wide());
                 Ok(())
             }
         }
@@ -50,7 +49,7 @@ impl OpenSheet<'_> {
         ensures rows { self.new.rows.now ≡ after_search self.old.rows.now (outcome_of result) }
         ensures board { self.new.board ≡ self.old.board }
         ensures marks { self.new.marks ≡ self.old.marks }
-        ensures lent { self.new.rows.ghost_name ≡ self.old.rows.ghost_name }
+        ensures lent { IsLentAs self.old self.new }
         ensures trials { FewTrials (on_core self.old.rows.now core) (outcome_of result) }
         ensures orders { OrdersCore (T.Test.meaning test.now self.old.board) self.old.rows.now core (outcome_of result) self.new.rows.now }
     {
@@ -62,19 +61,14 @@ impl OpenSheet<'_> {
     // standing. The trials are told.
     pub fn order<T: Test>(&mut self, core: u8, test: &T) -> Result<u32, NotOrdered>
         ensures answer { result ≡ order_answer (T.Test.meaning test.now) (state_of self.old) core }
-        ensures after { state_of self.new ≡ after_order (T.Test.meaning test.now) T.Test.wide (state_of self.old) core }
-        ensures lent { self.new.rows.ghost_name ≡ self.old.rows.ghost_name }
+        ensures after { Becomes self.old self.new (after_order (T.Test.meaning test.now) T.Test.wide (state_of self.old) core) }
         ensures orders { OrderedSo (T.Test.meaning test.now) (state_of self.old) core result self.new.rows.now }
     {
         if core >= self.board.cores {
             return Err(NotOrdered::CoreLacking);
         }
-        match self.rank_core(core, test) {
-            Err(none) => Err(NotOrdered::NoOrder(none)),
-            Ok(found) => {
-                self.marks[core as usize] = mark_of(test.is_wide());
-                Ok(found.trials)
-            }
-        }
+        let found = self.rank_core(core, test)?;
+        self.marks[core as usize] = Mark::standing(test.is_wide());
+        Ok(found.trials)
     }
 }

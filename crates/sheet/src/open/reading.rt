@@ -10,7 +10,6 @@ use bounds::response::{Unsettled, settle};
 use table::refusal::Refusal;
 use table::row::Row;
 use table::set::TaskSet;
-use table::tasks::{capacity_of, is_task};
 use table::testing::Test;
 
 impl OpenSheet<'_> {
@@ -32,17 +31,10 @@ impl OpenSheet<'_> {
     pub fn bound<T: Test>(&self, number: usize, test: &T) -> Result<u32, Refusal>
         ensures answer { result ≡ bound_answer (T.Test.meaning test.now) (state_of self.now) number }
     {
-        if number >= capacity_of(self.rows) {
-            return Err(Refusal::NumberTooLarge);
-        }
-        if !is_task(self.rows, number) {
-            return Err(Refusal::NumberEmpty);
-        }
+        self.check_task(number)?;
         let above = TaskSet::higher_ranked(self.rows, number);
-        match test.bound(&self.board, self.rows, number, &above) {
-            Some(bound) => Ok(bound),
-            None => Err(Refusal::NoBound),
-        }
+        test.bound(&self.board, self.rows, number, &above)
+            .ok_or(Refusal::NoBound)
     }
 
     // Settles all response times together under the present ranks: one bound for each row, 0 for an

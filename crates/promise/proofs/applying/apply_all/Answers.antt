@@ -1,4 +1,4 @@
-use Rattle.std.proofs.Common.{◌≡◌, ◌+◌, ◌<◌, [], ◌++◌, length, get_or, take, drop, set, sym, ap, ◌∙◌, arith}
+use Rattle.std.proofs.Common.{◌≡◌, ◌+◌, ◌<◌, [], ◌++◌, length, get_or, take, drop, set, Some, sym, ap, ◌∙◌, arith}
 use Rattle.promise.proofs.Runs.{answers_all, answers_more, rest_more, sheet_more}
 use Rattle.promise.proofs.applying.apply_all.Goals as goal
 use Rattle.promise.specs.Calls.{after_all, answer_to, answers_to}
@@ -20,13 +20,13 @@ loop-i-preserved g c =
     let i = c.loop-i.i in
     let told = c.loop-i.answers in
     let room : i < length told = omega (arith, c.requires) in (
-      ap (λ q. after_all m w q (drop (i + 1) cs)) c.apply.ensures.after ∙ sym (sheet_more m w s cs i past c.loop-i-test.true) ∙ c.loop-i.invariant.0,
-      ap (λ a. take (i + 1) (set told i a) ++ answers_to m w (state_of c.apply.new.sheet) (drop (i + 1) cs)) c.apply.ensures.answer
-          ∙ ap (λ q. take (i + 1) (set told i (answer_to m s (get_or cs i past))) ++ answers_to m w q (drop (i + 1) cs)) c.apply.ensures.after
+      ap (λ q. after_all m w q (drop (i + 1) cs)) c.apply.ensures.after.state ∙ sym (sheet_more m w s cs i past c.loop-i-test.true) ∙ c.loop-i.invariant.0,
+      ap (λ a. take (i + 1) (set told i (Some a)) ++ answers_to m w (state_of c.apply.new.sheet) (drop (i + 1) cs)) c.apply.ensures.answer
+          ∙ ap (λ q. take (i + 1) (set told i (Some (answer_to m s (get_or cs i past)))) ++ answers_to m w q (drop (i + 1) cs)) c.apply.ensures.after.state
           ∙ answers_more m w s cs i past c.loop-i-test.true told room
           ∙ c.loop-i.invariant.1,
-      rest_more told c.args.answers.now i c.apply.result c.loop-i.invariant.2,
-      c.apply.ensures.lent ∙ c.loop-i.invariant.3,
+      rest_more told c.args.answers.now i (Some c.apply.result) c.loop-i.invariant.2,
+      c.apply.ensures.after.lent ∙ c.loop-i.invariant.3,
     )
 
 pub returns : goal.returns
@@ -39,6 +39,5 @@ returns g c =
     let last : i ≡ length cs = omega arith in
     record {
       answers = answers_all m w s cs i c.loop-i.answers c.args.answers.now (answers_to m w (state_of c.args.sheet.now) cs) last c.loop-i.invariant.1 c.loop-i.invariant.2;
-      after = sym (at_drop_all (after_all m w s) cs i c.loop-i-test.false) ∙ c.loop-i.invariant.0;
-      lent = c.loop-i.invariant.3;
+      after = record { state = sym (at_drop_all (after_all m w s) cs i c.loop-i-test.false) ∙ c.loop-i.invariant.0; lent = c.loop-i.invariant.3 };
     }

@@ -5,7 +5,7 @@ use Rattle.report.specs.Lines.{head_line}
 use Rattle.report.specs.Report.{line_of_core, line_of_number, report_text}
 use Rattle.report.specs.Texts.{shown}
 use Rattle.tablefile.specs.Parts.{laid}
-use Rattle.std.proofs.Common.{◌++◌, ap, ◌∙◌}
+use Rattle.std.proofs.Common.{◌++◌, ap, ◌∙◌, ◌≡◌}
 
 pub returns : goal.returns
 unfolding report_text
@@ -13,7 +13,11 @@ returns g c =
     let board = c.args.board.now in
     let rows = c.args.rows.now in
     let head = c.push_head.ensures.shows ∙ ap (λ t. t ++ head_line board) c.new-text.ensures.shows in
-    let numbers = c.push_numbers.ensures.shows ∙ ap (λ (ask : Answers). shown c.push_cores.new.text ++ laid 64 (line_of_number ask rows)) c.prepare-prepared.ensures.answer in
+    let test = c.new-asking.ensures.test in
+    let same = c.new-asking.ensures.board in
+    let asked = c.new-asking.ensures.rows in
+    let told = c.push_numbers.ensures.shows in
+    let numbers : shown c.push_numbers.new.text ≡ shown c.push_cores.new.text ++ laid 64 (line_of_number (g.T.Test.meaning c.args.test.now board rows) rows) = cc in
     record {
       answer =
           then (head_line board) (shown c.push_cores.new.text) (shown c.push_numbers.new.text) (laid board.cores (line_of_core c.args.marks.now)) (laid 64 (line_of_number (g.T.Test.meaning c.args.test.now board rows) rows))

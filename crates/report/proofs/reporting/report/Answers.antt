@@ -10,7 +10,7 @@ use Rattle.std.proofs.Common.{◌≡◌, List, length, ap, ◌∙◌}
 pub returns : goal.returns
 returns g c =
     let m = g.T.Test.meaning c.args.test.now in
-    let sheet = c.args.sheet.now in
+    let sheet = c.args.sheet.now.sheet in
     let text : shown c.compose.result ≡ report_text (g.T.Test.meaning c.args.test.now) (closed_state c.args.sheet.now) =
     c.compose.ensures.answer
     ∙ ap (λ (b : Board). report_text m (record { board = b; rows = c.rows.result.now; marks = c.marks.result })) c.board.ensures.answer

@@ -1,32 +1,43 @@
-use Rattle.std.proofs.Common.{◌≡◌, ◌+◌, ◌/◌, ◌%◌, [], ◌∷◌, ◌++◌, length, decimal, sym, ap, ◌∙◌, arith}
 use Rattle.report.proofs.text.Text.+push_decimal.Goals as goal
+use Rattle.report.proofs.text.Text.+push_decimal.Goals.{else-n-ge10, then-n-ge10}
 use Rattle.report.specs.Texts.{shown}
+use Rattle.std.proofs.Common.{◌≡◌, ℕ, ◌+◌, ◌/◌, ◌%◌, ◌^◌, ◌<◌, ◌≤◌, List, [], ◌∷◌, ◌++◌, length, decimal, sym, ap, ◌∙◌, arith}
 use Rattle.std.proofs.lemmas.Fmt.{decimal_digit, decimal_step, length-decimal-le}
-use Rattle.std.proofs.lemmas.List.{append_assoc, length_push}
+use Rattle.std.proofs.lemmas.List.{append_assoc, length-append}
 
-pub push-requires-else-n-lt10 : goal.push-requires-else-n-lt10
-push-requires-else-n-lt10 t c = omega (arith, c.push_decimal.ensures.long, length-decimal-le 19 (c.args.n / 10) (omega arith) (omega arith) (omega arith), c.requires)
+-- what stands before the last digit, and that there is room for it
+record Before (start front : List ℕ) (n : ℕ) : Type 0 where
+  shows : front ++ (48 + n % 10) ∷ [] ≡ start ++ decimal n
+  short : length front ≤ length start + 19
 
-pub returns-then-n-lt10 : goal.returns-then-n-lt10
-returns-then-n-lt10 t c =
-    let d : decimal c.args.n ≡ (48 + c.args.n) ∷ [] = decimal_digit c.args.n c.if-n-lt10.true in
+more : (start front : List ℕ) (n : ℕ) → 10 ≤ n → n < 2 ^ 64 → front ≡ start ++ decimal (n / 10) → Before start front n
+more start front n low high e = record {
+  shows = ap (λ t. t ++ (48 + n % 10) ∷ []) e ∙ append_assoc start (decimal (n / 10)) ((48 + n % 10) ∷ []) ∙ ap (λ ds. start ++ ds) (sym (decimal_step n (omega arith) (omega arith)));
+  short = omega (arith, ap length e ∙ length-append start (decimal (n / 10)), length-decimal-le 19 (n / 10) (omega arith) (omega arith) (omega arith));
+}
+
+one : (start front : List ℕ) (n : ℕ) → n < 10 → front ≡ start → Before start front n
+one start front n low e =
+    let last : n % 10 ≡ n = omega arith in
     record {
-      shows = c.push.ensures.shows ∙ ap (λ ds. shown c.args.self.now ++ ds) (sym d);
-      long = c.push.ensures.long ∙ ap (λ ds. c.args.self.now.len + length ds) (sym d);
-      near = omega (arith, c.push.ensures.long);
+      shows = ap (λ t. t ++ (48 + n % 10) ∷ []) e ∙ ap (λ d. start ++ (48 + d) ∷ []) last ∙ ap (λ ds. start ++ ds) (sym (decimal_digit n low));
+      short = omega (arith, ap length e);
     }
 
-pub returns-else-n-lt10 : goal.returns-else-n-lt10
-returns-else-n-lt10 t c =
-    let n = c.args.n in
-    let start = shown c.args.self.now in
-    let d : decimal n ≡ decimal (n / 10) ++ ((48 + n % 10) ∷ []) = decimal_step n (omega arith) (omega arith) in
-    record {
-      shows =
-          c.push-else-n-lt10.ensures.shows
-          ∙ ap (λ t. t ++ (48 + n % 10) ∷ []) c.push_decimal.ensures.shows
-          ∙ append_assoc start (decimal (n / 10)) ((48 + n % 10) ∷ [])
-          ∙ ap (λ ds. start ++ ds) (sym d);
-      long = omega (arith, c.push-else-n-lt10.ensures.long, c.push_decimal.ensures.long, ap length d ∙ length_push (decimal (n / 10)) (48 + n % 10));
-      near = omega (arith, c.push-else-n-lt10.ensures.long, c.push_decimal.ensures.long, length-decimal-le 19 (n / 10) (omega arith) (omega arith) (omega arith));
-    }
+pub push-requires : goal.push-requires
+push-requires t c =
+    let before : Before (shown c.args.self.now) c.if-n-ge10.self.bytes.items c.args.n =
+    elim c.if-n-ge10.branch [
+      | then-n-ge10 w ↦ more (shown c.args.self.now) c.if-n-ge10.self.bytes.items c.args.n w.if-n-ge10.true c.ranges.n.fits (ap shown w.self-is ∙ w.push_decimal.ensures.shows)
+      | else-n-ge10 w ↦ one (shown c.args.self.now) c.if-n-ge10.self.bytes.items c.args.n (omega (arith, w.if-n-ge10.false)) (ap shown w.self-is)
+    ] in
+    (omega arith, omega (arith, c.requires, before.short))
+
+pub returns : goal.returns
+returns t c =
+    let before : Before (shown c.args.self.now) c.if-n-ge10.self.bytes.items c.args.n =
+    elim c.if-n-ge10.branch [
+      | then-n-ge10 w ↦ more (shown c.args.self.now) c.if-n-ge10.self.bytes.items c.args.n w.if-n-ge10.true c.ranges.n.fits (ap shown w.self-is ∙ w.push_decimal.ensures.shows)
+      | else-n-ge10 w ↦ one (shown c.args.self.now) c.if-n-ge10.self.bytes.items c.args.n (omega (arith, w.if-n-ge10.false)) (ap shown w.self-is)
+    ] in
+    record { shows = c.push.ensures.items ∙ before.shows; near = omega (arith, c.push.ensures.len, before.short) }

@@ -3,7 +3,7 @@ use Rattle.sheet.proofs.closed.ClosedSheet.save.Goals as goal
 
 pub returns : goal.returns
 returns c =
-    let sheet = c.args.self.now in
+    let sheet = c.args.self.now.sheet in
     record {
       answer = c.write_file.ensures.answer;
       buffer = c.write_file.ensures.buffer;

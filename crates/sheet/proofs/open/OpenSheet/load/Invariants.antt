@@ -6,8 +6,8 @@ use Rattle.sheet.specs.State.{state_of}
 use Rattle.tablefile.specs.Parts.{laid}
 
 -- the blocks before this one were loaded
-abbrev pub invariant-loop-k : goal.invariant-loop-k
-invariant-loop-k l =
-    (taken l.bytes (state_of l.initial.self) 0 (laid l.k (block_steps l.bytes)) ≡ going (state_of l.self) l.entered)
-    × (l.entered ≤ 255 * l.k)
+abbrev pub invariant-loop-block : goal.invariant-loop-block
+invariant-loop-block l =
+    (taken l.bytes (state_of l.initial.self) 0 (laid l.block (block_steps l.bytes)) ≡ going (state_of l.self) l.entered)
+    × (l.entered ≤ 255 * l.block)
     × (l.self.rows.ghost_name ≡ l.initial.self.rows.ghost_name)

@@ -1,10 +1,9 @@
-use Rattle.std.proofs.Common.{◌≡◌, ℕ, ◌≤◌, min, List, [], ◌++◌, map, length, get_or, take, drop, sym, refl, ap, ◌∙◌, ⊎_elim, arith}
+use Rattle.std.proofs.Common.{◌≡◌, ℕ, ◌≤◌, min, List, [], ◌∷◌, ◌++◌, map, replicate, length, take, drop, sym, refl, ap, ◌∙◌, ⊎_elim, arith}
 use Rattle.sheet.proofs.open.OpenSheet.open.Goals as goal
 use Rattle.sheet.specs.State.{fresh}
-use Rattle.std.proofs.lemmas.List.Edits.{map_over_more}
-use Rattle.std.proofs.lemmas.List.{drop_all, get_or_default, take_all}
+use Rattle.std.proofs.lemmas.List.{drop_all, take_all}
 use Rattle.std.proofs.lemmas.Bool.{cases_lt}
-use Rattle.table.specs.Rows.{empty_row, past}
+use Rattle.table.specs.Rows.{empty_row}
 use Rattle.table.specs.declared.row.Row.{Row}
 
 abbrev emptied : List Row → ℕ → List Row
@@ -21,16 +20,16 @@ up_to_64 rows i e =
     (λ many. let z : i ≡ 64 = omega arith in ap (emptied rows) z)
     (cases_lt (length rows) 64)
 
-pub loop-i-preserved : goal.loop-i-preserved
-loop-i-preserved c =
-    let ys = c.loop-i.rows in
-    let i = c.loop-i.i in
-    map_over_more (λ row. empty_row) c.args.rows.now ys i (get_or ys i past) (omega (arith, c.capacity_of-n.ensures.answer)) c.loop-i.invariant (get_or_default ys i past (get_or ys i past) (omega (arith, c.capacity_of-n.ensures.answer)))
+filled : (rows : List Row) → replicate (length rows) empty_row ≡ map (λ row. empty_row) rows
+filled [] = refl
+filled (row ∷ rows) = ap (λ zs. empty_row ∷ zs) (filled rows)
 
 pub returns : goal.returns
 returns c =
     let rows = c.args.rows.now in
+    let n = c.capacity_of-n.result in
+    let rest : List Row = drop n rows in
     record {
-      after = ap (λ zs. record { board = c.args.board; rows = zs; marks = (fresh c.args.board rows).marks }) (c.loop-i.invariant ∙ up_to_64 rows c.loop-i.i (omega (arith, c.capacity_of-n.ensures.answer)));
+      after = ap (λ zs. record { board = c.args.board; rows = zs; marks = (fresh c.args.board rows).marks }) (ap (λ zs. zs ++ rest) (c.fill.ensures.after (λ y same. same) ∙ filled (take n rows)) ∙ up_to_64 rows n c.capacity_of-n.ensures.answer);
       lent = refl;
     }
