@@ -8,7 +8,7 @@ use Rattle.table.specs.declared.row.Row.{Row}
 use Rattle.tablefile.specs.Numbers.{numbers, tasks_below}
 use Rattle.tablefile.specs.Parts.{part}
 
-pub tasks_none : (rows : List Row) → [] ≡ tasks_below rows 0
+pub tasks_none : (rows : List Row) → tasks_below rows 0 ≡ []
 unfolding tasks_below
 tasks_none rows = refl
 
