@@ -6,8 +6,8 @@ use arrayvec::ArrayVec;
 use table::row::Row;
 use table::tasks::{NUMBERS, is_task};
 
-// The numbers of the tasks, rising. A `collect` could fail where there is no room; a push can't here.
-#[tactic(auto, using(crate::proofs::Numbered::tasks_none, crate::proofs::Numbered::tasks_in, crate::proofs::Numbered::tasks_out, crate::proofs::Numbered::length_tasks), unfolding(crate::specs::Numbers::numbers))]
+// The numbers of the tasks, rising. They are pushed, as a `collect` answers a `Result`.
+#[tactic(auto, using(crate::proofs::Numbered::gathered), unfolding(crate::specs::Numbers::numbers))]
 pub(crate) fn gather(rows: &[Row]) -> ArrayVec<u8, 64>
     ensures { result.items ≡ numbers rows.now }
 {
