@@ -20,6 +20,7 @@ pub(crate) fn block_bytes(board: &Board, number: u8, rows: &[Row], chosen: &[u8]
     let count = chosen.len() as u8;
     let mut bytes = [0; 512];
     bytes[..8].copy_from_slice(&[high, low, count, board.cores, board.resources, 0, 0, 0]);
+    // By places, as in `record_bytes`.
     for (p, number) in chosen.iter().enumerate() {
         let record = Record {
             number: *number,

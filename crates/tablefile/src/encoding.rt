@@ -18,7 +18,7 @@ pub(crate) fn record_bytes(record: &Record) -> [u8; 48]
     let words = [f.cost, f.period, f.deadline, x0, x1, x2, x3, y0, y1, y2, y3];
     let mut bytes = [0; 48];
     bytes[..4].copy_from_slice(&[record.number, row.core, row.rank, record.fourth]);
-    // By places: what `chunks_exact_mut` lends, a proof doesn't know afterwards.
+    // By places: in a loop over what `chunks_exact_mut` lends, no invariant can name the bytes.
     for (i, word) in words.iter().enumerate() {
         bytes[4 + 4 * i..8 + 4 * i].copy_from_slice(&word.to_be_bytes());
     }
