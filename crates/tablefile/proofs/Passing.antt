@@ -4,11 +4,11 @@ use Rattle.std.proofs.lemmas.List.{append_assoc, drop_at, drop-drop, take_at}
 use Rattle.std.proofs.lemmas.Bool.{eq-eqb, le-leb}
 use Rattle.table.specs.declared.board.Board.{Board}
 use Rattle.tablefile.proofs.Checked.{check_small}
-use Rattle.tablefile.proofs.Fronts.{front_laid, header}
+use Rattle.tablefile.proofs.Fronts.{filled, front_is}
 use Rattle.tablefile.proofs.Laid.{length_laid, part_laid}
 use Rattle.tablefile.proofs.Lengths.{length_block, length_front, length_place}
 use Rattle.tablefile.proofs.Spelled.{spells_spelled}
-use Rattle.tablefile.proofs.Zeros.{all_zeros, drop_zeros, length_zeros}
+use Rattle.tablefile.proofs.Zeros.{all_zeros, length_zeros}
 use Rattle.tablefile.specs.Check.{check_of}
 use Rattle.tablefile.specs.Layout.{block_bytes, front_bytes, place_bytes}
 use Rattle.tablefile.specs.Parts.{all_zero, laid, part, zeros}
@@ -54,13 +54,11 @@ zeros_pass board k rs few =
     let check = spelled 2 (check_of (front_bytes board k rs)) in
     let c = length rs in
     let from = 8 + 48 * c in
-    let done = header board k rs ++ laid c (place_bytes rs) in
+    let done = filled board k rs few in
     let rest = zeros (502 - 48 * c) in
     let long : length done ≡ from = omega (arith, length_laid 48 c (place_bytes rs) (λ j l. length_place rs j)) in
-    let front : front_bytes board k rs ≡ done ++ rest = sym (front_laid board k rs few) ∙ ap (λ xs. done ++ xs) (drop_zeros (48 * c) 502) in
     let found : part (block_bytes board k rs) from (510 - from) ≡ rest =
-    ap (λ xs. part (xs ++ check) from (510 - from)) front
-    ∙ ap (λ xs. part xs from (510 - from)) (append_assoc done rest check)
+    ap (λ xs. part xs from (510 - from)) (ap (λ xs. xs ++ check) (front_is board k rs few) ∙ append_assoc done rest check)
     ∙ ap (take (510 - from)) (drop_at done (rest ++ check) from long)
     ∙ take_at rest check (510 - from) (length_zeros (502 - 48 * c) ∙ omega arith) in
     ap (λ n. all_zero (part (block_bytes board k rs) (8 + 48 * n) (510 - (8 + 48 * n)))) (count_found board k rs) ∙ ap all_zero found ∙ all_zeros (502 - 48 * c)

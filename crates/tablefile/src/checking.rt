@@ -31,20 +31,18 @@ fn has_number(block: &[u8; 512], number: u8) -> bool
 fn has_header(board: &Board, block: &[u8; 512]) -> bool
     ensures { result ≡ header_fits board.now block.now }
 {
-    let [_, _, count, cores, resources, x, y, z, ..] = block;
-    (*count <= 10)
-        & (*cores == board.cores)
-        & (*resources == board.resources)
-        & (*x == 0)
-        & (*y == 0)
-        & (*z == 0)
+    matches!(
+        block,
+        [_, _, 0..=10, cores, resources, 0, 0, 0, ..]
+            if *cores == board.cores && *resources == board.resources
+    )
 }
 
 // Whether a file may have this length.
 pub fn check_length(length: usize) -> Result<(), Refusal>
     ensures answer { result ≡ done_unless (length_refusal «length») }
 {
-    if (1 <= length) & (length <= 32768) & (length % 512 == 0) {
+    if (1..=32768).contains(&length) && length.is_multiple_of(512) {
         Ok(())
     } else {
         Err(Refusal::FileLength)

@@ -6,7 +6,8 @@ use arrayvec::ArrayVec;
 use table::row::Row;
 use table::tasks::{NUMBERS, is_task};
 
-// The numbers of the tasks, rising.
+// The numbers of the tasks, rising. They are pushed, as a `collect` answers a `Result`.
+#[tactic(auto, using(crate::proofs::Numbered::gathered), unfolding(crate::specs::Numbers::numbers))]
 pub(crate) fn gather(rows: &[Row]) -> ArrayVec<u8, 64>
     ensures { result.items ≡ numbers rows.now }
 {

@@ -1,7 +1,7 @@
 // A record: what 48 bytes of a file spell.
 use table::row::Row;
 
-#[derive(Clone, Copy)]
+#[derive(Clone, Copy, PartialEq, Eq, Debug)]
 pub struct Record {
     // The number of the row.
     pub number: u8,

@@ -31,6 +31,7 @@ pub fn write_file(board: &Board, rows: &[Row], out: &mut [u8]) -> Result<usize, 
     if out.len() < 512 * blocks {
         return Err(Refusal::BufferTooShort);
     }
+    // By places, as in `record_bytes`.
     for k in 0..blocks {
         let chosen = part_of(&found, 10 * k, 10);
         let block = block_bytes(board, k as u8, rows, chosen);

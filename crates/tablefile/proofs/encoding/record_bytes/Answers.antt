@@ -18,8 +18,7 @@ loop-i-preserved c =
     let r = c.args.record.now in
     let i = c.loop-i.i in
     let written : c.copy_from_slice-in-loop-i.new.self ≡ word_in (words r.row.figures) i =
-    c.copy_from_slice-in-loop-i.ensures.after ∙ c.to_be_bytes.ensures ∙ four_spelled (get_or c.words.result i 0)
-    ∙ ap (λ xs. word_in xs i) c.words.ensures.answer in
+    c.copy_from_slice-in-loop-i.ensures.after ∙ c.to_be_bytes.ensures ∙ four_spelled (get_or (words r.row.figures) i 0) in
     ap (λ bs. put_mid (4 + 4 * i) (8 + 4 * i - (4 + 4 * i)) bs c.copy_from_slice-in-loop-i.new.self) c.loop-i.invariant
     ∙ laid_into_more (r.number ∷ r.row.core ∷ r.row.rank ∷ r.fourth ∷ []) (zeros 44) c.copy_from_slice-in-loop-i.new.self 4 (word_in (words r.row.figures)) i (4 + 4 * i) (8 + 4 * i - (4 + 4 * i)) (λ j. length_spelled 4 (get_or (words r.row.figures) j 0)) refl (omega arith) written
 
