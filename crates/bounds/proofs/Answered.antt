@@ -59,5 +59,5 @@ deadlines_told board rows list told = fun_ext (λ i. fun_ext (λ set. go i set (
         let task = on_board_task board rows i on in
         ap (λ o. cond (on_board board rows i) o None)
         (solution_same (lesser_rule (length_of list) board rows i set) (deadline_rule board rows i set)
-        (lesser_alike rows rows (core rows i) i (on_core_from rows (core rows i) i task refl) (alike_self rows (core rows i)) board set (length_of list) (deadline rows) (alike_self rows) (λ y j there. told.is j (on_core_task rows y j there)))
+        (lesser_alike rows rows (core rows i) i (on_core_from rows (core rows i) i task refl) (alike_self rows (core rows i)) board set (length_of list) (deadline rows) (alike_self rows) (λ y j there. told j (on_core_task rows y j there)))
         (deadline rows i))

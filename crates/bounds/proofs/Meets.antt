@@ -23,7 +23,7 @@ module _ (board : Board) (rows : List Row) (i : ℕ) (set : Set) (own : Own) (as
   pub meets_execution : (t : ℕ) → own_cost own t ≡ execution rows i set t
   unfolding execution
   meets_execution t =
-      ap (λ (f : Figures). f.cost + sum_by (λ x. releases (t + x.ahead) x.period * x.cost) (held own.higher)) asks.figures_is
+      ap (λ (f : Figures). f.cost + sum_by (λ x. releases (t + x.ahead.length) x.period * x.cost) (held own.higher)) asks.figures_is
       ∙ ap (λ n. cost rows i + n)
       (asks.gathers (λ q. releases (t + q.ahead) q.period * q.cost)
       ∙ ap (λ s. sum_to 64 (λ j. cond (above rows i set j) (releases s (period rows j) * cost rows j) 0)) (add-zero t))

@@ -4,14 +4,15 @@ use Rattle.bounds.specs.Adding.{releases_le, times_le}
 use Rattle.bounds.specs.Loads.{Added, AtMost, Total, cost_at, no_sums, of_core, seen, weight_at}
 use Rattle.bounds.specs.declared.load.Load.{Load}
 use Rattle.bounds.specs.declared.load.Sums.{Sums}
+use Rattle.least.specs.declared.window.Window.{Window}
 use Rattle.std.proofs.lemmas.List.Sums.{sum_by_more}
 use Rattle.std.proofs.lemmas.List.{get_or-replicate, get_or-set_other, get_or-set_same}
 use Rattle.std.proofs.lemmas.Bool.{cases_eq, cond-false, cond-true, eq-eqb, ne_eqb}
 use Rattle.table.proofs.Limited.{each_small}
 
--- a load is released at most 20,000,000 times in a window of at most 10,000,000
-pub seen_le : (t : ℕ) (x : Load) → t ≤ 10000000 → seen t x ≤ 20000000
-seen_le t x h = omega (arith, releases_le (t + x.ahead) x.period x.period_low, x.ahead_high)
+-- a load is released at most 20,000,000 times in a window
+pub seen_le : (window : Window) (x : Load) → seen window.length x ≤ 20000000
+seen_le window x = omega (arith, releases_le (window.length + x.ahead.length) x.period x.period_low, window.short, x.ahead.short)
 
 pub at_most_more : (b n : ℕ) (s s' : Sums) (x : Load) → n ≤ 20000000 → AtMost b s → Added s n x s' → AtMost (b + 200000000000000) s'
 at_most_more b n s s' x few h a = record {
@@ -46,7 +47,10 @@ module _ (pick : Load → Bool) (t : ℕ) (start : Sums) where
         }
 
 -- the sums of a core, by its number: at the start all are nothing
-module _ (t : ℕ) where
+module _ (window : Window) where
+  abbrev t : ℕ
+  t = window.length
+
   abbrev pub ByCore : List Load → ℕ → List Sums → ℕ → Type 0
   ByCore xs k sums y = Total (of_core y) t no_sums (take k xs) (get_or sums y no_sums) × AtMost (k * 200000000000000) (get_or sums y no_sums)
 
@@ -57,8 +61,8 @@ module _ (t : ℕ) where
         record { cost = omega (arith, c); shared = λ r h. omega (arith, z r h) },
       )
 
-  pub by_core_more : (xs : List Load) (k : ℕ) (d : Load) (sums : List Sums) (s : Sums) → k < length xs → length sums ≡ 8 → t ≤ 10000000 → Added (get_or sums (get_or xs k d).core no_sums) (seen t (get_or xs k d)) (get_or xs k d) s → ((y : ℕ) → y < 8 → ByCore xs k sums y) → (y : ℕ) → y < 8 → ByCore xs (k + 1) (set sums (get_or xs k d).core s) y
-  by_core_more xs k d sums s within eight short added h y l =
+  pub by_core_more : (xs : List Load) (k : ℕ) (d : Load) (sums : List Sums) (s : Sums) → k < length xs → length sums ≡ 8 → Added (get_or sums (get_or xs k d).core no_sums) (seen t (get_or xs k d)) (get_or xs k d) s → ((y : ℕ) → y < 8 → ByCore xs k sums y) → (y : ℕ) → y < 8 → ByCore xs (k + 1) (set sums (get_or xs k d).core s) y
+  by_core_more xs k d sums s within eight added h y l =
       let x = get_or xs k d in
       elim (cases_eq y x.core) [
         | inl same ↦
@@ -66,7 +70,7 @@ module _ (t : ℕ) where
             let here : get_or (set sums x.core s) y no_sums ≡ s = ap (λ n. get_or (set sums x.core s) n no_sums) same ∙ get_or-set_same sums x.core s no_sums (omega (arith, eight, x.core_low)) in
             subst (λ q. Total (of_core y) t no_sums (take (k + 1) xs) q × AtMost ((k + 1) * 200000000000000) q) (sym here) (
               total_more (of_core y) t no_sums xs k d within (get_or sums y no_sums) s (eq-eqb x.core y (sym same)) (h y l).0 (subst (λ n. Added (get_or sums n no_sums) (seen t x) x s) (sym same) added),
-              at_most_weaker _ _ s (omega arith) (at_most_more _ _ (get_or sums x.core no_sums) s x (seen_le t x short) at_core.1 added),
+              at_most_weaker _ _ s (omega arith) (at_most_more _ _ (get_or sums x.core no_sums) s x (seen_le window x) at_core.1 added),
             )
         | inr other ↦
             subst (λ q. Total (of_core y) t no_sums (take (k + 1) xs) q × AtMost ((k + 1) * 200000000000000) q) (sym (get_or-set_other sums x.core y s no_sums other)) (

@@ -20,7 +20,7 @@ sumBy_mono f g (x ∷ xs) h = omega (arith, sum_by-cons f x xs, sum_by-cons g x 
 
 own_cost_rises : (own : Own) (s t : ℕ) → s ≤ t → own_cost own s ≤ own_cost own t
 own_cost_rises own s t l =
-    omega (arith, sumBy_mono (cost_at s) (cost_at t) (held own.higher) (λ x. mul-le-mul_right x.cost (releases_rise (s + x.ahead) (t + x.ahead) x.period (omega arith))))
+    omega (arith, sumBy_mono (cost_at s) (cost_at t) (held own.higher) (λ x. mul-le-mul_right x.cost (releases_rise (s + x.ahead.length) (t + x.ahead.length) x.period (omega arith))))
 
 -- whatever is added to the execution
 pub no_solution_below : (own : Own) (more : ℕ → ℕ) (r : ℕ) → r ≤ own_cost own 1 → NoSolutionBelow (λ t. own_cost own t + more t) r

@@ -16,7 +16,7 @@ pub record Form : Type 0 where
   pub weight : List ℕ
 
 abbrev pub form : Load → Form
-form x = record { core = x.core; period = x.period; ahead = x.ahead; cost = x.cost; weight = x.weight }
+form x = record { core = x.core; period = x.period; ahead = x.ahead.length; cost = x.cost; weight = x.weight }
 
 -- how a row's task weighs on a lower one of its core
 abbrev pub higher_form : Row → Form

@@ -16,7 +16,7 @@ pub record Adds (before : Loads) (load : Load) (after : Loads) : Type 0 where
 
 -- releases of a load that the window sees
 abbrev pub seen : ℕ → Load → ℕ
-seen t load = releases (t + load.ahead) load.period
+seen t load = releases (t + load.ahead.length) load.period
 
 -- what a load adds: execution, and on resource r
 abbrev pub cost_at : ℕ → Load → ℕ

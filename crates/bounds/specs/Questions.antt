@@ -1,5 +1,5 @@
 -- A question as the code holds it, the right side of its recurrence computed from loads, and which question it is.
-use Rattle.std.specs.Prelude.{◌≡◌, ℕ, ◌+◌, ◌-◌, ◌*◌, ◌<◌, ◌≤◌, min, true, false, cond, List, Some, None, sum_by, Option, MatchOption, slice_index}
+use Rattle.std.specs.Prelude.{◌≡◌, ℕ, ◌+◌, ◌-◌, ◌*◌, ◌<◌, min, true, false, cond, List, Some, None, sum_by, Option, MatchOption, slice_index}
 use Rattle.bounds.specs.Demand.{above, deadline}
 use Rattle.bounds.specs.Gathering.{Gathers, higher_form}
 use Rattle.bounds.specs.Loads.{cost_at, held, of_core, weight_at}
@@ -57,6 +57,5 @@ deadline_in None = 0
 deadline_in (Some task) = task.figures.deadline
 
 -- a list has the deadlines of the tasks
-pub record Deadlines (rows : List Row) (list : List ℕ) : Type 0 where
-  pub is : (j : ℕ) → is_task rows j ≡ true → slice_index list j ≡ deadline rows j
-  pub small : (j : ℕ) → slice_index list j ≤ 10000000
+abbrev pub Deadlines : List Row → List ℕ → Type 0
+Deadlines rows list = (j : ℕ) → is_task rows j ≡ true → slice_index list j ≡ deadline rows j

@@ -1,11 +1,12 @@
 // The one text that gathers the loads of the tasks that are picked, and who picks.
-ghost use Rattle.std.specs.Prelude.{ℕ, ◌<◌, ◌≤◌, Bool, not, ◌&&◌, ◌==◌, slice_index};
+ghost use Rattle.std.specs.Prelude.{ℕ, ◌<◌, Bool, not, ◌&&◌, ◌==◌};
 ghost use Rattle.bounds.specs.Gathering.{Form, Gathers, Picked, higher_form, rival_form};
 ghost use Rattle.bounds.specs.Lengths.{length_of};
 ghost use Rattle.table.specs.Rows.{on_board, on_core, row_at};
 ghost use Rattle.table.specs.Sets.{members};
 ghost use Rattle.table.specs.Tasks.{listed};
 
+use crate::lengths::Lengths;
 use crate::load::{Load, Loads};
 use crate::prepared::CheckedTable;
 use table::set::TaskSet;
@@ -67,19 +68,16 @@ impl Pick for Higher<'_> {
 pub(crate) struct Rivals<'a> {
     pub(crate) table: &'a CheckedTable,
     // How long before the window the releases of each are counted from.
-    pub(crate) ahead: &'a [u32; 64],
-    ghost ahead_small: { (j : ℕ) → slice_index ahead.now j ≤ 10000000 },
+    pub(crate) ahead: &'a Lengths,
 }
 
 impl Pick for Rivals<'_> {
     ghost picks = { λ x j. on_board x.table.now.board (listed x.table.now.tasks) j };
 
-    ghost forms = { λ x j. rival_form (length_of x.ahead.now j) (row_at (listed x.table.now.tasks) j) };
+    ghost forms = { λ x j. rival_form (length_of x.ahead.now.of j) (row_at (listed x.table.now.tasks) j) };
 
     fn pick(&self, number: usize) -> Option<Load> {
-        match self.table.task(number) {
-            Some(task) => Some(Load::rival(&task, self.ahead[number])),
-            None => None,
-        }
+        let task = self.table.task(number)?;
+        Some(Load::rival(&task, self.ahead.at(number)))
     }
 }

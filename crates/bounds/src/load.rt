@@ -2,6 +2,8 @@
 ghost use Rattle.std.specs.Prelude.{◌≡◌, ◌<◌, ◌≤◌, true};
 ghost use Rattle.table.specs.Limits.{all_small};
 
+use least::Window;
+
 mod making;
 mod summing;
 
@@ -13,13 +15,12 @@ pub(crate) use summing::{lesser, total};
 pub(crate) struct Load {
     pub(crate) core: u8,
     pub(crate) period: u32,
-    pub(crate) ahead: u32,
+    pub(crate) ahead: Window,
     pub(crate) cost: u32,
     pub(crate) weight: [u32; 4],
     ghost core_low: { core < 8 },
     ghost period_low: { 1 ≤ period },
     ghost period_high: { period ≤ 10000000 },
-    ghost ahead_high: { ahead ≤ 10000000 },
     ghost cost_high: { cost ≤ 10000000 },
     ghost weight_high: { all_small weight ≡ true },
 }

@@ -4,7 +4,7 @@ ghost use Rattle.bounds.specs.Loads.{AtMost};
 ghost use Rattle.bounds.specs.Questions.{SumsOf, lesser_side, own_cost, sensitivity_side};
 
 use crate::load::{Loads, Sums, lesser, total};
-use least::Rule;
+use least::{Rule, Window};
 use table::board::Board;
 use table::task::Task;
 
@@ -16,10 +16,9 @@ pub(crate) struct Own {
 }
 
 impl Own {
-    // Execution, and for each resource what can be suffered, in a window of length t.
-    fn sums(&self, t: u32) -> Sums
-        requires { t ≤ 10000000 }
-        ensures value { SumsOf self.now t result }
+    // Execution, and for each resource what can be suffered, in a window.
+    fn sums(&self, window: Window) -> Sums
+        ensures value { SumsOf self.now window.length result }
         ensures small { AtMost (2 ^ 54) result }
     {
         let x = self.task.figures.sensitivity;
@@ -27,14 +26,14 @@ impl Own {
             cost: self.task.figures.cost as u64,
             shared: [x[0] as u64, x[1] as u64, x[2] as u64, x[3] as u64],
         };
-        self.higher.sums(start, t)
+        self.higher.sums(start, window)
     }
 
     // The execution that every window has: one release of each.
     fn start(&self) -> u32
         ensures { result ≤ own_cost self.now 1 }
     {
-        let once = self.sums(1).cost;
+        let once = self.sums(Window { length: 1 }).cost;
         once.min(u32::MAX as u64) as u32
     }
 }
@@ -53,8 +52,8 @@ impl Rule for SensitivityRule {
         self.own.start()
     }
 
-    fn at(&self, t: u32) -> u64 {
-        let own = self.own.sums(t);
+    fn at(&self, window: Window) -> u64 {
+        let own = self.own.sums(window);
         let others = self.board.cores as u64 - 1;
         own.cost + others * total(&own.shared, self.board.resources as usize)
     }
@@ -76,9 +75,9 @@ impl Rule for LesserRule<'_> {
         self.own.start()
     }
 
-    fn at(&self, t: u32) -> u64 {
-        let own = self.own.sums(t);
-        let theirs = self.rivals.sums_by_core(t);
+    fn at(&self, window: Window) -> u64 {
+        let own = self.own.sums(window);
+        let theirs = self.rivals.sums_by_core(window);
         let core = self.own.task.core as usize;
         let cores = self.board.cores as usize;
         let resources = self.board.resources as usize;

@@ -4,15 +4,15 @@ ghost use Rattle.bounds.specs.Loads.{Added, AtMost, Total, every, held, no_sums,
 ghost use Rattle.bounds.specs.Sums.{sum_to};
 
 use crate::load::{Load, Loads, Sums};
+use least::Window;
 
 impl Load {
-    // Its releases in a window of length t, rounded up.
-    fn releases(&self, t: u32) -> u32
-        requires { t ≤ 10000000 }
-        ensures value { result ≡ seen t self.now }
+    // Its releases in a window, rounded up.
+    fn releases(&self, window: Window) -> u32
+        ensures value { result ≡ seen window.length self.now }
         ensures few { result ≤ 20000000 }
     {
-        (t + self.ahead + (self.period - 1)) / self.period
+        (window.length + self.ahead.length + (self.period - 1)) / self.period
     }
 }
 
@@ -42,31 +42,29 @@ impl Sums {
 }
 
 impl Loads {
-    // From a start, what all loads add in a window of length t.
-    pub(crate) fn sums(&self, start: Sums, t: u32) -> Sums
-        requires low { AtMost 10000000 start }
-        requires time { t ≤ 10000000 }
-        ensures total { Total every t start (held self.now) result }
+    // From a start, what all loads add in a window.
+    pub(crate) fn sums(&self, start: Sums, window: Window) -> Sums
+        requires { AtMost 10000000 start }
+        ensures total { Total every window.length start (held self.now) result }
         ensures small { AtMost (2 ^ 54) result }
     {
         let mut sums = start;
         for k in 0..self.n {
             let load = &self.list[k];
-            let n = load.releases(t);
+            let n = load.releases(window);
             sums = sums.add(n, load);
         }
         sums
     }
 
-    // What the loads of each core add in a window of length t.
-    pub(crate) fn sums_by_core(&self, t: u32) -> [Sums; 8]
-        requires { t ≤ 10000000 }
-        ensures { (y : ℕ) → y < 8 → Total (of_core y) t no_sums (held self.now) (slice_index_or result y no_sums) }
+    // What the loads of each core add in a window.
+    pub(crate) fn sums_by_core(&self, window: Window) -> [Sums; 8]
+        ensures { (y : ℕ) → y < 8 → Total (of_core y) window.length no_sums (held self.now) (slice_index_or result y no_sums) }
     {
         let mut sums = [Sums::NONE; 8];
         for k in 0..self.n {
             let load = &self.list[k];
-            let n = load.releases(t);
+            let n = load.releases(window);
             let y = load.core as usize;
             let before = sums[y];
             sums[y] = before.add(n, load);

@@ -1,5 +1,5 @@
 // Preparing a table, and asking it.
-ghost use Rattle.std.specs.Prelude.{◌≡◌, ℕ, ◌≤◌, false, MatchOption, slice_index};
+ghost use Rattle.std.specs.Prelude.{◌≡◌, false, MatchOption};
 ghost use Rattle.bounds.specs.Bounds.{ahead_bound, composable_bound};
 ghost use Rattle.bounds.specs.Lengths.{length_of};
 ghost use Rattle.bounds.specs.Questions.{Asks, Deadlines, Found, deadline_in};
@@ -8,6 +8,7 @@ ghost use Rattle.table.specs.Sets.{members};
 ghost use Rattle.table.specs.Tasks.{listed, slot};
 
 use crate::gathering::{Higher, Rivals, gather};
+use crate::lengths::Lengths;
 use crate::prepared::{CheckedTable, RivalTable};
 use crate::question::{LesserRule, Own, SensitivityRule};
 use least::{Rule, climb};
@@ -28,14 +29,14 @@ fn deadline_at(tasks: &Tasks, number: usize) -> u32
 }
 
 // The deadlines of the tasks, by number.
-fn deadlines(tasks: &Tasks) -> [u32; 64]
-    ensures { Deadlines (listed tasks.now) result }
+fn deadlines(tasks: &Tasks) -> Lengths
+    ensures { Deadlines (listed tasks.now) result.of }
 {
     let mut all = [0; 64];
     for j in 0..NUMBERS {
         all[j] = deadline_at(tasks, j);
     }
-    all
+    Lengths { of: all }
 }
 
 impl CheckedTable {
@@ -96,14 +97,13 @@ impl CheckedTable {
     // With the deadlines as the lengths from which the releases of rivals are counted.
     pub(crate) fn with_deadlines(self) -> RivalTable
         ensures table { result.table ≡ self }
-        ensures ahead { Deadlines (listed self.tasks) result.ahead }
+        ensures ahead { Deadlines (listed self.tasks) result.ahead.of }
     {
         let ahead = deadlines(&self.tasks);
         self.with_lengths(ahead)
     }
 
-    pub(crate) fn with_lengths(self, ahead: [u32; 64]) -> RivalTable
-        requires { (j : ℕ) → slice_index ahead j ≤ 10000000 }
+    pub(crate) fn with_lengths(self, ahead: Lengths) -> RivalTable
         ensures table { result.table ≡ self }
         ensures ahead { result.ahead ≡ ahead }
     {
@@ -122,7 +122,7 @@ impl CheckedTable {
 impl RivalTable {
     // The deadline test's bound, with these lengths in the place of the deadlines.
     pub(crate) fn ask<'a>(&'a self, number: usize, above: &'a TaskSet) -> Option<u32>
-        ensures { result ≡ ahead_bound (length_of self.now.ahead) self.now.table.board (listed self.now.table.tasks) number (members above.now) }
+        ensures { result ≡ ahead_bound (length_of self.now.ahead.of) self.now.table.board (listed self.now.table.tasks) number (members above.now) }
     {
         match self.table.own(number, above) {
             Some(own) => {

@@ -1,11 +1,12 @@
 // Rounds of bounds, until one equals the list before it.
-ghost use Rattle.std.specs.Prelude.{◌≡◌, ℕ, ◌≤◌, if◌then◌else◌, Some, slice_index};
+ghost use Rattle.std.specs.Prelude.{◌≡◌, if◌then◌else◌, Some};
 ghost use Rattle.bounds.specs.Demand.{cost};
 ghost use Rattle.bounds.specs.Endings.{Ends};
 ghost use Rattle.bounds.specs.Rounds.{bound_after, response, round_after, settled, start};
 ghost use Rattle.bounds.specs.Solutions.{SettlesLeast};
 ghost use Rattle.table.specs.Rows.{on_board};
 
+use crate::lengths::Lengths;
 use crate::prepared::{CheckedTable, RivalTable};
 use crate::response::{Ranked, Settled, Unbounded};
 use table::board::Board;
@@ -38,7 +39,7 @@ impl Ranked<'_> {
     // What a round has for a number: the bound of a task under its rank, and 0 for what is none.
     fn bound_at(&self, rivals: &RivalTable, number: usize) -> Option<u32>
         requires { rivals.now.table ≡ self.now.table }
-        ensures { result ≡ bound_after self.now.table.board self.now.rows.now rivals.now.ahead number }
+        ensures { result ≡ bound_after self.now.table.board self.now.rows.now rivals.now.ahead.of number }
     {
         match self.table.task(number) {
             Some(_) => rivals.ask(number, &TaskSet::higher_ranked(self.rows, number)),
@@ -47,11 +48,10 @@ impl Ranked<'_> {
     }
 
     // One round: the bounds from the list before it, or the smallest number that has none.
-    fn round(&self, before: &[u32; 64]) -> Result<[u32; 64], usize>
-        requires { (j : ℕ) → slice_index before.now j ≤ 10000000 }
-        ensures { result ≡ round_after self.now.table.board self.now.rows.now before.now }
+    fn round(&self, before: Lengths) -> Result<[u32; 64], usize>
+        ensures { result ≡ round_after self.now.table.board self.now.rows.now before.of }
     {
-        let rivals = self.table.with_lengths(*before);
+        let rivals = self.table.with_lengths(before);
         let mut bounds = [0; 64];
         for i in 0..NUMBERS {
             match self.bound_at(&rivals, i) {
@@ -69,7 +69,7 @@ impl Ranked<'_> {
         let mut before = self.costs();
         let mut round: u32 = 1;
         loop {
-            match self.round(&before) {
+            match self.round(Lengths { of: before }) {
                 Ok(bounds) => {
                     if bounds == before {
                         return Ok(Settled { round, bounds });

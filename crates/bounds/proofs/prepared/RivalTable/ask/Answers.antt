@@ -18,7 +18,7 @@ returns-in-Some c =
     let board = self.table.board in
     let rows = listed self.table.tasks in
     let set = members c.args.above.now in
-    let ahead = length_of self.ahead in
+    let ahead = length_of self.ahead.of in
     let asks = c.in-Some.ensures in
     answered (lesser_rule ahead) board rows c.args.number set c.in-Some.own (lesser_side board c.in-Some.own self.rivals) c.climb.result asks (lesser_meets board rows c.args.number set ahead c.in-Some.own self.rivals asks self.gathered) (lesser_rising board rows c.args.number set ahead asks.found) c.climb.ensures.answer
 

@@ -18,13 +18,13 @@ loop-j-preserved c =
           (fill_by_more f all j 0 (omega (arith, c.loop-j.invariant.0)) c.loop-j.invariant.1),
     )
 
+pub invariant_of-result : goal.invariant_of-result
+invariant_of-result c = record {
+  short = λ k. ⊎_elim
+      (λ below. subst (λ n. n ≤ 10000000) (sym (c.loop-j.invariant.1 k (omega arith))) (slot_deadline_small (slot c.args.tasks.now k)))
+      (λ past. omega (arith, get_or_past c.loop-j.all k 0 (omega (arith, c.loop-j.invariant.0))))
+      (cases_lt k 64);
+}
+
 pub returns : goal.returns
-returns c =
-    let tasks = c.args.tasks.now in
-    record {
-      is = λ k task. c.loop-j.invariant.1 k (omega (arith, task_below (listed tasks) k task)) ∙ slot_deadline tasks k task;
-      small = λ k. ⊎_elim
-          (λ below. subst (λ n. n ≤ 10000000) (sym (c.loop-j.invariant.1 k (omega arith))) (slot_deadline_small (slot tasks k)))
-          (λ past. omega (arith, get_or_past c.loop-j.all k 0 (omega (arith, c.loop-j.invariant.0))))
-          (cases_lt k 64);
-    }
+returns c k task = let tasks = c.args.tasks.now in c.loop-j.invariant.1 k (omega (arith, task_below (listed tasks) k task)) ∙ slot_deadline tasks k task

@@ -6,7 +6,7 @@ use Rattle.bounds.specs.Loads.{no_sums}
 use native.Mathlib.Nat.{min-le_right}
 
 pub loop-y-init : goal.loop-y-init
-loop-y-init c = (so_far_none c.args.self.now.board c.args.self.now.own c.args.self.now.rivals.now c.args.t c.sums-own.result c.sums-own.ensures.value, c.sums-own.ensures.small.cost)
+loop-y-init c = (so_far_none c.args.self.now.board c.args.self.now.own c.args.self.now.rivals.now c.args.window.length c.sums-own.result c.sums-own.ensures.value, c.sums-own.ensures.small.cost)
 
 pub total-sum-requires : goal.total-sum-requires
 total-sum-requires c = record {
@@ -22,7 +22,7 @@ overflow_add-sum c =
 pub loop-y-preserved : goal.loop-y-preserved
 loop-y-preserved c =
     let q = c.args.self.now in
-    let t = c.args.t in
+    let t = c.args.window.length in
     let y = c.loop-y.y in
     let own = c.sums-own in
     elim c.if-y-core.branch [
@@ -41,4 +41,4 @@ pub returns : goal.returns
 returns c =
     let q = c.args.self.now in
     let last : c.loop-y.y ≡ q.board.cores = omega (arith, c.loop-y-test.false, c.loop-y.auto.y-end) in
-    c.loop-y.invariant.0 ∙ ap (so_far q.board q.own q.rivals.now c.args.t) last ∙ so_far_all q.board q.own q.rivals.now c.args.t
+    c.loop-y.invariant.0 ∙ ap (so_far q.board q.own q.rivals.now c.args.window.length) last ∙ so_far_all q.board q.own q.rivals.now c.args.window.length

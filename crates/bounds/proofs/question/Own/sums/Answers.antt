@@ -12,11 +12,8 @@ sums-requires c =
     let figures = c.args.self.now.task.figures in
     let k = limited figures c.args.self.now.task.limits in
     record {
-      low = record {
-        cost = k.cost_high;
-        shared = λ r l. subst (λ n. n ≤ 10000000) (sym (four figures.sensitivity r l)) (each_small figures.sensitivity k.sensitivity_small r l);
-      };
-      time = c.requires;
+      cost = k.cost_high;
+      shared = λ r l. subst (λ n. n ≤ 10000000) (sym (four figures.sensitivity r l)) (each_small figures.sensitivity k.sensitivity_small r l);
     }
 
 pub returns : goal.returns
@@ -25,7 +22,7 @@ returns c =
     record {
       value = record {
         cost = c.sums.ensures.total.cost;
-        shared = λ r l. c.sums.ensures.total.shared r l ∙ ap (λ n. n + sum_by (weight_at r c.args.t) (held own.higher)) (four own.task.figures.sensitivity r l);
+        shared = λ r l. c.sums.ensures.total.shared r l ∙ ap (λ n. n + sum_by (weight_at r c.args.window.length) (held own.higher)) (four own.task.figures.sensitivity r l);
       };
       small = c.sums.ensures.small;
     }

@@ -14,5 +14,5 @@ pub returns : goal.returns
 returns c =
     let q = c.args.self.now in
     ap (λ n. n + (q.board.cores - 1) * c.total.result) c.sums-own.ensures.value.cost
-    ∙ ap (λ n. own_cost q.own c.args.t + (q.board.cores - 1) * n)
+    ∙ ap (λ n. own_cost q.own c.args.window.length + (q.board.cores - 1) * n)
     (c.total.ensures.value ∙ sum_same q.board.resources _ _ (λ k l. c.sums-own.ensures.value.shared k (omega (arith, q.board.few_resources))))

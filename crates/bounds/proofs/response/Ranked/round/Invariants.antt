@@ -4,4 +4,4 @@ use Rattle.bounds.specs.Rounds.{bound_after}
 
 -- every number below i has a bound, and it is written
 abbrev pub invariant-loop-i : goal.invariant-loop-i
-invariant-loop-i l = Filled (bound_after l.self.table.board l.self.rows.now l.before) l.i l.bounds
+invariant-loop-i l = Filled (bound_after l.self.table.board l.self.rows.now l.fn.before.of) l.i l.bounds

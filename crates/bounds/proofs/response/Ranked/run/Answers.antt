@@ -30,6 +30,9 @@ less c =
 pub loop-round-smaller : goal.loop-round-smaller
 loop-round-smaller c = less c
 
+pub invariant_of-round : goal.invariant_of-round
+invariant_of-round c = record { short = c.loop-round.invariant.0.small }
+
 pub loop-round-preserved : goal.loop-round-preserved
 loop-round-preserved c =
     let board = c.args.self.now.table.board in
