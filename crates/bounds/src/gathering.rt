@@ -25,7 +25,7 @@ pub(crate) trait Pick {
 }
 
 pub(crate) fn gather<P: Pick>(picker: &P) -> Loads
-    ensures { Gathers (P.picks picker.now) (P.forms picker.now) 64 result }
+    ensures { Gathers (P.picks picker.now) (P.forms picker.now) 64 result.items }
 {
     let mut loads = Loads::new();
     for j in 0..NUMBERS {

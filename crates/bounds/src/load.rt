@@ -2,12 +2,13 @@
 ghost use Rattle.std.specs.Prelude.{◌≡◌, ◌<◌, ◌≤◌, true};
 ghost use Rattle.table.specs.Limits.{all_small};
 
+use arrayvec::ArrayVec;
 use least::Window;
 
 mod making;
 mod summing;
 
-pub(crate) use summing::{lesser, total};
+pub(crate) use summing::{lesser, sums, sums_by_core, total};
 
 // One release each period, counted from `ahead` before the window; a release adds its cost to the
 // execution, and its weight to the contention on each resource.
@@ -25,13 +26,7 @@ pub(crate) struct Load {
     ghost weight_high: { all_small weight ≡ true },
 }
 
-// The first n of a list.
-#[derive(Clone, Copy)]
-pub(crate) struct Loads {
-    pub(crate) n: usize,
-    pub(crate) list: [Load; 64],
-    ghost fits: { n ≤ 64 },
-}
+pub(crate) type Loads = ArrayVec<Load, 64>;
 
 // Sums in one window: of execution, and of contention on each resource.
 #[derive(Clone, Copy)]

@@ -3,13 +3,13 @@ ghost use Rattle.std.specs.Prelude.{◌^◌, ◌≤◌};
 ghost use Rattle.bounds.specs.Loads.{AtMost};
 ghost use Rattle.bounds.specs.Questions.{SumsOf, lesser_side, own_cost, sensitivity_side};
 
-use crate::load::{Loads, Sums, lesser, total};
+use crate::load::{Loads, Sums, lesser, sums, sums_by_core, total};
 use least::{Rule, Window};
 use table::board::Board;
 use table::task::Task;
 
 // A task and the loads of those that count as higher.
-#[derive(Clone, Copy)]
+#[derive(Drop)]
 pub(crate) struct Own {
     pub(crate) task: Task,
     pub(crate) higher: Loads,
@@ -26,7 +26,7 @@ impl Own {
             cost: self.task.figures.cost as u64,
             shared: [x[0] as u64, x[1] as u64, x[2] as u64, x[3] as u64],
         };
-        self.higher.sums(start, window)
+        sums(&self.higher, start, window)
     }
 
     // The execution that every window has: one release of each.
@@ -39,7 +39,7 @@ impl Own {
 }
 
 // The composable test's: what can be suffered counts once for each other core.
-#[derive(Clone, Copy)]
+#[derive(Drop)]
 pub(crate) struct SensitivityRule {
     pub(crate) board: Board,
     pub(crate) own: Own,
@@ -61,7 +61,7 @@ impl Rule for SensitivityRule {
 
 // The deadline test's: for each other core and resource the lesser of what it can inflict and what
 // can be suffered.
-#[derive(Clone, Copy)]
+#[derive(Drop)]
 pub(crate) struct LesserRule<'a> {
     pub(crate) board: Board,
     pub(crate) own: Own,
@@ -69,7 +69,7 @@ pub(crate) struct LesserRule<'a> {
 }
 
 impl Rule for LesserRule<'_> {
-    ghost value = { λ q. lesser_side q.board q.own q.rivals.now };
+    ghost value = { λ q. lesser_side q.board q.own q.rivals.now.items };
 
     fn start(&self) -> u32 {
         self.own.start()
@@ -77,7 +77,7 @@ impl Rule for LesserRule<'_> {
 
     fn at(&self, window: Window) -> u64 {
         let own = self.own.sums(window);
-        let theirs = self.rivals.sums_by_core(window);
+        let theirs = sums_by_core(self.rivals, window);
         let core = self.own.task.core as usize;
         let cores = self.board.cores as usize;
         let resources = self.board.resources as usize;

@@ -1,10 +1,9 @@
-// Loads from tasks, and lists of them.
+// Loads from tasks.
 ghost use Rattle.std.specs.Prelude.{◌≡◌, ◌<◌, Some};
 ghost use Rattle.bounds.specs.Gathering.{form, higher_form, rival_form};
-ghost use Rattle.bounds.specs.Loads.{Adds};
 ghost use Rattle.table.specs.Tasks.{row_of};
 
-use crate::load::{Load, Loads};
+use crate::load::Load;
 use least::Window;
 use table::task::Task;
 
@@ -38,29 +37,15 @@ impl Load {
     }
 }
 
-impl Loads {
-    pub(crate) fn new() -> Loads
-        ensures { result.n ≡ 0 }
-    {
-        let none = Load {
+// What an unused place of a list holds.
+impl Default for Load {
+    fn default() -> Load {
+        Load {
             core: 0,
             period: 1,
             ahead: Window { length: 0 },
             cost: 0,
             weight: [0; 4],
-        };
-        Loads {
-            n: 0,
-            list: [none; 64],
         }
-    }
-
-    pub(crate) fn push(&mut self, load: Load)
-        requires { self.old.n < 64 }
-        ensures { Adds self.old load self.new }
-    {
-        let n = self.n;
-        self.list[n] = load;
-        self.n = n + 1;
     }
 }

@@ -1,6 +1,6 @@
 // Sums over loads: one division for each load and window.
 ghost use Rattle.std.specs.Prelude.{◌≡◌, ℕ, ◌*◌, ◌^◌, ◌<◌, ◌≤◌, min, slice_index, slice_index_or};
-ghost use Rattle.bounds.specs.Loads.{Added, AtMost, Total, every, held, no_sums, of_core, seen};
+ghost use Rattle.bounds.specs.Loads.{Added, AtMost, Total, every, no_sums, of_core, seen};
 ghost use Rattle.bounds.specs.Sums.{sum_to};
 
 use crate::load::{Load, Loads, Sums};
@@ -41,36 +41,29 @@ impl Sums {
     }
 }
 
-impl Loads {
-    // From a start, what all loads add in a window.
-    pub(crate) fn sums(&self, start: Sums, window: Window) -> Sums
-        requires { AtMost 10000000 start }
-        ensures total { Total every window.length start (held self.now) result }
-        ensures small { AtMost (2 ^ 54) result }
-    {
-        let mut sums = start;
-        for k in 0..self.n {
-            let load = &self.list[k];
-            let n = load.releases(window);
-            sums = sums.add(n, load);
-        }
-        sums
+// From a start, what all loads add in a window.
+pub(crate) fn sums(loads: &Loads, start: Sums, window: Window) -> Sums
+    requires { AtMost 10000000 start }
+    ensures total { Total every window.length start loads.now.items result }
+    ensures small { AtMost (2 ^ 54) result }
+{
+    let mut sums = start;
+    for load in loads.as_slice() {
+        sums = sums.add(load.releases(window), load);
     }
+    sums
+}
 
-    // What the loads of each core add in a window.
-    pub(crate) fn sums_by_core(&self, window: Window) -> [Sums; 8]
-        ensures { (y : ℕ) → y < 8 → Total (of_core y) window.length no_sums (held self.now) (slice_index_or result y no_sums) }
-    {
-        let mut sums = [Sums::NONE; 8];
-        for k in 0..self.n {
-            let load = &self.list[k];
-            let n = load.releases(window);
-            let y = load.core as usize;
-            let before = sums[y];
-            sums[y] = before.add(n, load);
-        }
-        sums
+// What the loads of each core add in a window.
+pub(crate) fn sums_by_core(loads: &Loads, window: Window) -> [Sums; 8]
+    ensures { (y : ℕ) → y < 8 → Total (of_core y) window.length no_sums loads.now.items (slice_index_or result y no_sums) }
+{
+    let mut sums = [Sums::NONE; 8];
+    for load in loads.as_slice() {
+        let y = load.core as usize;
+        sums[y] = sums[y].add(load.releases(window), load);
     }
+    sums
 }
 
 // The lesser of each two.

@@ -26,5 +26,5 @@ returns-in-Some c =
       found = found.0;
       core_is = core_is;
       figures_is = sym (ap (λ (q : Row). q.figures) found.1);
-      gathers = subst (λ x. Gathers (λ j. (set j && not (eqb j i)) && on_core rows x j) (λ j. higher_form (row_at rows j)) 64 c.gather-higher.result) core_is c.gather-higher.ensures;
+      gathers = subst (λ x. Gathers (λ j. (set j && not (eqb j i)) && on_core rows x j) (λ j. higher_form (row_at rows j)) 64 c.gather-higher.result.items) core_is c.gather-higher.ensures;
     }

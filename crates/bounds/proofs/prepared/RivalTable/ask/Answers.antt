@@ -20,7 +20,7 @@ returns-in-Some c =
     let set = members c.args.above.now in
     let ahead = length_of self.ahead.of in
     let asks = c.in-Some.ensures in
-    answered (lesser_rule ahead) board rows c.args.number set c.in-Some.own (lesser_side board c.in-Some.own self.rivals) c.climb.result asks (lesser_meets board rows c.args.number set ahead c.in-Some.own self.rivals asks self.gathered) (lesser_rising board rows c.args.number set ahead asks.found) c.climb.ensures.answer
+    answered (lesser_rule ahead) board rows c.args.number set c.in-Some.own (lesser_side board c.in-Some.own self.rivals.items) c.climb.result asks (lesser_meets board rows c.args.number set ahead c.in-Some.own self.rivals.items asks self.gathered) (lesser_rising board rows c.args.number set ahead asks.found) c.climb.ensures.answer
 
 pub returns-in-None : goal.returns-in-None
 unfolding ahead_bound

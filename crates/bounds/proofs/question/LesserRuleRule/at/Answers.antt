@@ -6,7 +6,7 @@ use Rattle.bounds.specs.Loads.{no_sums}
 use native.Mathlib.Nat.{min-le_right}
 
 pub loop-y-init : goal.loop-y-init
-loop-y-init c = (so_far_none c.args.self.now.board c.args.self.now.own c.args.self.now.rivals.now c.args.window.length c.sums-own.result c.sums-own.ensures.value, c.sums-own.ensures.small.cost)
+loop-y-init c = (so_far_none c.args.self.now.board c.args.self.now.own c.args.self.now.rivals.now.items c.args.window.length c.sums-own.result c.sums-own.ensures.value, c.sums-own.ensures.small.cost)
 
 pub total-sum-requires : goal.total-sum-requires
 total-sum-requires c = record {
@@ -28,11 +28,11 @@ loop-y-preserved c =
     elim c.if-y-core.branch [
       | then-y-core w ↦
           let eight : y < 8 = omega (arith, c.loop-y-test.true, q.board.few_cores) in (
-            omega (arith, w.sum-is, c.loop-y.invariant.0, w.total-sum.ensures.value, so_far_more q.board q.own q.rivals.now t y own.result (get_or c.sums_by_core-theirs.result y no_sums) w.lesser-shares.result w.if-y-core.true own.ensures.value (c.sums_by_core-theirs.ensures y eight) w.lesser-shares.ensures),
+            omega (arith, w.sum-is, c.loop-y.invariant.0, w.total-sum.ensures.value, so_far_more q.board q.own q.rivals.now.items t y own.result (get_or c.sums_by_core-theirs.result y no_sums) w.lesser-shares.result w.if-y-core.true own.ensures.value (c.sums_by_core-theirs.ensures y eight) w.lesser-shares.ensures),
             omega (arith, w.sum-is, c.loop-y.invariant.1, w.total-sum.ensures.small, q.board.few_resources),
           )
       | else-y-core w ↦ (
-        omega (arith, w.sum-is, c.loop-y.invariant.0, so_far_same q.board q.own q.rivals.now t y w.if-y-core.false),
+        omega (arith, w.sum-is, c.loop-y.invariant.0, so_far_same q.board q.own q.rivals.now.items t y w.if-y-core.false),
         omega (arith, w.sum-is, c.loop-y.invariant.1),
       )
     ]
@@ -41,4 +41,4 @@ pub returns : goal.returns
 returns c =
     let q = c.args.self.now in
     let last : c.loop-y.y ≡ q.board.cores = omega (arith, c.loop-y-test.false, c.loop-y.auto.y-end) in
-    c.loop-y.invariant.0 ∙ ap (so_far q.board q.own q.rivals.now c.args.window.length) last ∙ so_far_all q.board q.own q.rivals.now c.args.window.length
+    c.loop-y.invariant.0 ∙ ap (so_far q.board q.own q.rivals.now.items c.args.window.length) last ∙ so_far_all q.board q.own q.rivals.now.items c.args.window.length

@@ -1,6 +1,6 @@
 use Rattle.std.proofs.Common.{◌≡◌, ℕ, ◌+◌, ◌<◌, ◌≤◌, List, [], ◌∷◌, get_or, sum_by, sym, refl, ap, ◌∙◌, subst}
 use Rattle.bounds.proofs.question.Own.sums.Goals as goal
-use Rattle.bounds.specs.Loads.{held, weight_at}
+use Rattle.bounds.specs.Loads.{weight_at}
 use Rattle.table.proofs.Limited.{below_four, each_small, limited}
 
 -- four numbers, read one by one
@@ -22,7 +22,7 @@ returns c =
     record {
       value = record {
         cost = c.sums.ensures.total.cost;
-        shared = λ r l. c.sums.ensures.total.shared r l ∙ ap (λ n. n + sum_by (weight_at r c.args.window.length) (held own.higher)) (four own.task.figures.sensitivity r l);
+        shared = λ r l. c.sums.ensures.total.shared r l ∙ ap (λ n. n + sum_by (weight_at r c.args.window.length) own.higher.items) (four own.task.figures.sensitivity r l);
       };
       small = c.sums.ensures.small;
     }
