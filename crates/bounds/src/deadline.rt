@@ -14,7 +14,7 @@ use table::row::Row;
 use table::set::TaskSet;
 use table::testing::Test;
 
-#[derive(Clone, Copy)]
+#[derive(Clone, Copy, PartialEq, Eq, Debug)]
 pub struct Deadline;
 
 impl Test for Deadline {

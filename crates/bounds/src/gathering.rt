@@ -52,14 +52,14 @@ impl Pick for Higher<'_> {
     ghost forms = { λ x j. higher_form (row_at (listed x.tasks.now) j) };
 
     fn pick(&self, number: usize) -> Option<Load> {
-        if self.above.flags[number] & (number != self.number) {
-            if let Some(task) = self.tasks.at(number) {
-                if task.core == self.core {
-                    return Some(Load::higher(&task));
-                }
-            }
+        if !self.above.flags[number] | (number == self.number) {
+            return None;
         }
-        None
+        let task = self.tasks.at(number)?;
+        if task.core != self.core {
+            return None;
+        }
+        Some(Load::higher(&task))
     }
 }
 

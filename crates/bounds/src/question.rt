@@ -21,10 +21,9 @@ impl Own {
         ensures value { SumsOf self.now window.length result }
         ensures small { AtMost (2 ^ 54) result }
     {
-        let x = self.task.figures.sensitivity;
         let start = Sums {
             cost: self.task.figures.cost as u64,
-            shared: [x[0] as u64, x[1] as u64, x[2] as u64, x[3] as u64],
+            shared: self.task.figures.sensitivity.map(|x| x as u64),
         };
         sums(&self.higher, start, window)
     }
@@ -39,14 +38,14 @@ impl Own {
 }
 
 // The composable test's: what can be suffered counts once for each other core.
-#[derive(Drop)]
-pub(crate) struct SensitivityRule {
-    pub(crate) board: Board,
-    pub(crate) own: Own,
+#[derive(Clone, Copy)]
+pub(crate) struct SensitivityRule<'a> {
+    pub(crate) board: &'a Board,
+    pub(crate) own: &'a Own,
 }
 
-impl Rule for SensitivityRule {
-    ghost value = { λ q. sensitivity_side q.board q.own };
+impl Rule for SensitivityRule<'_> {
+    ghost value = { λ q. sensitivity_side q.board.now q.own.now };
 
     fn start(&self) -> u32 {
         self.own.start()
@@ -61,15 +60,15 @@ impl Rule for SensitivityRule {
 
 // The deadline test's: for each other core and resource the lesser of what it can inflict and what
 // can be suffered.
-#[derive(Drop)]
+#[derive(Clone, Copy)]
 pub(crate) struct LesserRule<'a> {
-    pub(crate) board: Board,
-    pub(crate) own: Own,
+    pub(crate) board: &'a Board,
+    pub(crate) own: &'a Own,
     pub(crate) rivals: &'a Loads,
 }
 
 impl Rule for LesserRule<'_> {
-    ghost value = { λ q. lesser_side q.board q.own q.rivals.now.items };
+    ghost value = { λ q. lesser_side q.board.now q.own.now q.rivals.now.items };
 
     fn start(&self) -> u32 {
         self.own.start()
@@ -82,9 +81,9 @@ impl Rule for LesserRule<'_> {
         let cores = self.board.cores as usize;
         let resources = self.board.resources as usize;
         let mut sum = own.cost;
-        for y in 0..cores {
+        for (y, theirs) in theirs[..cores].iter().enumerate() {
             if y != core {
-                let shares = lesser(&theirs[y].shared, &own.shared);
+                let shares = lesser(&theirs.shared, &own.shared);
                 sum += total(&shares, resources);
             }
         }

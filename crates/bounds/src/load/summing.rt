@@ -5,6 +5,7 @@ ghost use Rattle.bounds.specs.Sums.{sum_to};
 
 use crate::load::{Load, Loads, Sums};
 use least::Window;
+use std::array;
 
 impl Load {
     // Its releases in a window, rounded up.
@@ -70,12 +71,7 @@ pub(crate) fn sums_by_core(loads: &Loads, window: Window) -> [Sums; 8]
 pub(crate) fn lesser(theirs: &[u64; 4], own: &[u64; 4]) -> [u64; 4]
     ensures { (k : ℕ) → k < 4 → slice_index result k ≡ min (slice_index theirs.now k) (slice_index own.now k) }
 {
-    [
-        theirs[0].min(own[0]),
-        theirs[1].min(own[1]),
-        theirs[2].min(own[2]),
-        theirs[3].min(own[3]),
-    ]
+    array::from_fn(|k| theirs[k].min(own[k]))
 }
 
 // The sum over the resources of the board.
@@ -86,8 +82,8 @@ pub(crate) fn total(xs: &[u64; 4], resources: usize) -> u64
     ensures small { result ≤ resources * 2 ^ 54 }
 {
     let mut sum: u64 = 0;
-    for r in 0..resources {
-        sum += xs[r];
+    for x in &xs[..resources] {
+        sum += *x;
     }
     sum
 }

@@ -10,14 +10,14 @@ use Rattle.std.proofs.Common.{not, ◌&&◌, eqb, sym, ap, subst, arith}
 
 pub invariant_of-gather : goal.invariant_of-gather
 invariant_of-gather c =
-    let found = c.in-Some.ensures in
+    let found = c.in_ok-task.ensures in
     let board = c.args.self.now.board in
     record { core_low = omega (arith, on_board_core board (listed c.args.self.now.tasks) c.args.number found.0, ap (λ (q : Row). q.core) found.1, board.few_cores) }
 
-pub returns-in-Some : goal.returns-in-Some
+pub returns : goal.returns
 unfolding above
-returns-in-Some c =
-    let found = c.in-Some.ensures in
+returns c =
+    let found = c.in_ok-task.ensures in
     let rows = listed c.args.self.now.tasks in
     let i = c.args.number in
     let set = members c.args.above.now in
