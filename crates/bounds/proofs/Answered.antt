@@ -23,8 +23,8 @@ use Rattle.table.specs.declared.row.Figures.{Figures}
 use Rattle.table.specs.declared.row.Row.{Row}
 use Rattle.table.specs.declared.task.Task.{Task}
 use Rattle.table.specs.declared.tasks.Tasks.{Tasks}
-use mathlib.Core.Path.{fun_ext}
-use native.Mathlib.Nat.{min-eq_left}
+use Rattle.std.proofs.Math.Nat.{min-eq_left}
+use Rattle.std.proofs.Math.Path.{fun_ext}
 
 pub answered : (rule : Rule) (board : Board) (rows : List Row) (i : ℕ) (set : Set) (own : Own) (value : ℕ → ℕ) (answer : Option ℕ) → Asks board rows i set own → ((t : ℕ) → value t ≡ rule board rows i set t) → Rising (rule board rows i set) → (Rising value → answer ≡ solution value (min own.task.figures.deadline 10000000)) → answer ≡ bound_by rule board rows i set
 answered rule board rows i set own value answer asks same rising climbed =

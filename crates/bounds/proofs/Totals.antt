@@ -1,11 +1,13 @@
 -- The steps of the loops that add loads up: one load more is one term more, and a load that is not picked adds nothing.
-use Rattle.std.proofs.Common.{◌≡◌, ℕ, ◌+◌, ◌*◌, ◌<◌, ◌≤◌, Bool, true, false, cond, List, [], ◌∷◌, ◌++◌, length, get_or, take, set, replicate, sym, ap, ◌∙◌, subst, inl, inr, arith}
+use Rattle.std.proofs.Common.{refl, zero, suc, ◌≡◌, ℕ, ◌+◌, ◌*◌, ◌<◌, ◌≤◌, Bool, true, false, cond, List, [], ◌∷◌, ◌++◌, length, get_or, take, set, replicate, sym, ap, ◌∙◌, subst, inl, inr, arith}
 use Rattle.bounds.specs.Adding.{releases_le, times_le}
 use Rattle.bounds.specs.Loads.{Added, AtMost, Total, cost_at, no_sums, of_core, seen, weight_at}
+use Rattle.bounds.specs.Sums.{sum_to}
+use Rattle.std.specs.List.{fold}
 use Rattle.bounds.specs.declared.load.Load.{Load}
 use Rattle.bounds.specs.declared.load.Sums.{Sums}
 use Rattle.least.specs.declared.window.Window.{Window}
-use Rattle.std.proofs.lemmas.List.Sums.{sum_by_push}
+use Rattle.std.proofs.lemmas.List.Sums.{fold-append, sum_by_push}
 use Rattle.std.proofs.lemmas.List.{get_or-replicate, get_or-set_other, get_or-set_same, take_more}
 use Rattle.std.proofs.lemmas.Bool.{cases_eq, cond-false, cond-true, eq-eqb, ne_eqb}
 use Rattle.table.proofs.Limited.{each_small}
@@ -24,9 +26,6 @@ pub at_most_weaker : (a b : ℕ) (s : Sums) → a ≤ b → AtMost a s → AtMos
 at_most_weaker a b s l h = record { cost = omega (arith, h.cost); shared = λ r k. omega (arith, h.shared r k) }
 
 module _ (pick : Load → Bool) (t : ℕ) (start : Sums) where
-  pub total_none : Total pick t start [] start
-  total_none = record { cost = omega arith; shared = λ r h. omega arith }
-
   module _ (xs : List Load) (x : Load) where
     -- a load that is picked
     pub total_more : (s s' : Sums) → pick x ≡ true → Total pick t start xs s → Added s (seen t x) x s' → Total pick t start (xs ++ x ∷ []) s'
@@ -77,3 +76,13 @@ module _ (window : Window) where
               at_most_weaker _ _ (get_or sums y no_sums) (omega arith) (h y l).1,
             )
       ]
+
+-- the sum of the first n numbers of a list
+pub folded : (n : ℕ) (xs : List ℕ) → n ≤ length xs → fold (λ a x. a + x) 0 (take n xs) ≡ sum_to n (λ k. get_or xs k 0)
+unfolding sum_to
+folded zero xs l = refl
+folded (suc n) xs l =
+    let ends : take (suc n) xs ≡ take n xs ++ get_or xs n 0 ∷ [] = ap (λ m. take m xs) (let z : suc n ≡ n + 1 = omega arith in z) ∙ take_more xs n 0 (omega arith) in
+    ap (fold (λ a x. a + x) 0) ends
+    ∙ fold-append (λ a x. a + x) 0 (take n xs) (get_or xs n 0 ∷ [])
+    ∙ ap (λ a. a + get_or xs n 0) (folded n xs (omega arith))

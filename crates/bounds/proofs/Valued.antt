@@ -1,6 +1,6 @@
 -- The right sides that are computed from loads. Execution never falls as the window grows, and counts every load once
 -- in any window, so no solution lies below it; and the deadline test's sum goes core by core.
-use Rattle.std.proofs.Common.{◌≡◌, ℕ, ◌+◌, ◌<◌, ◌≤◌, min, cond, eqb, List, [], ◌∷◌, get_or, sum_by, refl, ap, ◌∙◌, mul-le-mul_right, arith}
+use Rattle.std.proofs.Common.{◌≡◌, ℕ, ◌+◌, ◌<◌, ◌≤◌, min, cond, eqb, List, get_or, refl, ap, ◌∙◌, mul-le-mul_right, arith}
 use Rattle.bounds.specs.Adding.{releases_rise, sum_more, sum_none, sum_same}
 use Rattle.bounds.specs.Loads.{Total, cost_at, no_sums, of_core}
 use Rattle.bounds.specs.Questions.{SumsOf, inflicted, lesser_side, own_cost, own_shared}
@@ -10,17 +10,13 @@ use Rattle.bounds.specs.declared.load.Load.{Load}
 use Rattle.bounds.specs.declared.load.Sums.{Sums}
 use Rattle.bounds.specs.declared.question.Own.{Own}
 use Rattle.least.specs.Least.{NoSolutionBelow}
-use Rattle.std.proofs.lemmas.List.Sums.{sum_by-cons}
+use Rattle.std.proofs.lemmas.List.Sums.{sum_by-le-sum_by}
 use Rattle.std.proofs.lemmas.Bool.{cond-false, cond-true, eq-eqb, ne_eqb}
 use Rattle.table.specs.declared.board.Board.{Board}
 
-sumBy_mono : {X : Type 0} (f g : X → ℕ) (xs : List X) → ((x : X) → f x ≤ g x) → sum_by f xs ≤ sum_by g xs
-sumBy_mono f g [] h = omega arith
-sumBy_mono f g (x ∷ xs) h = omega (arith, sum_by-cons f x xs, sum_by-cons g x xs, h x, sumBy_mono f g xs h)
-
 own_cost_rises : (own : Own) (s t : ℕ) → s ≤ t → own_cost own s ≤ own_cost own t
 own_cost_rises own s t l =
-    omega (arith, sumBy_mono (cost_at s) (cost_at t) own.higher.items (λ x. mul-le-mul_right x.cost (releases_rise (s + x.ahead.length) (t + x.ahead.length) x.period (omega arith))))
+    omega (arith, sum_by-le-sum_by (cost_at s) (cost_at t) own.higher.items (λ x. mul-le-mul_right x.cost (releases_rise (s + x.ahead.length) (t + x.ahead.length) x.period (omega arith))))
 
 -- whatever is added to the execution
 pub no_solution_below : (own : Own) (more : ℕ → ℕ) (r : ℕ) → r ≤ own_cost own 1 → NoSolutionBelow (λ t. own_cost own t + more t) r

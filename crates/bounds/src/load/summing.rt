@@ -32,6 +32,7 @@ impl Sums {
         let n = n as u64;
         Sums {
             cost: self.cost + n * load.cost as u64,
+            // Written out: by from_fn the closure's sums would have to fit at each of its calls.
             shared: [
                 self.shared[0] + n * load.weight[0] as u64,
                 self.shared[1] + n * load.weight[1] as u64,
@@ -81,9 +82,5 @@ pub(crate) fn total(xs: &[u64; 4], resources: usize) -> u64
     ensures value { result ≡ sum_to resources (λ k. slice_index xs.now k) }
     ensures small { result ≤ resources * 2 ^ 54 }
 {
-    let mut sum: u64 = 0;
-    for x in &xs[..resources] {
-        sum += *x;
-    }
-    sum
+    xs[..resources].iter().copied().sum()
 }

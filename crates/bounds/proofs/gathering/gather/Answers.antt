@@ -1,4 +1,4 @@
-use Rattle.std.proofs.Common.{◌≡◌, ◌+◌, ◌≤◌, length, sym, subst, arith}
+use Rattle.std.proofs.Common.{◌+◌, ◌≤◌, length, sym, subst, arith}
 use Rattle.bounds.proofs.Gathered.{gathers_no, gathers_none, gathers_yes}
 use Rattle.bounds.proofs.gathering.gather.Goals as goal
 use Rattle.bounds.proofs.gathering.gather.Goals.{in-Some, in_default}
@@ -21,8 +21,3 @@ loop-j-preserved g c =
           subst (λ x. (length x.items ≤ j + 1) × Gathers picks forms (j + 1) x.items) (sym w.loads-is)
           (omega (arith, c.loop-j.invariant.0), gathers_no picks forms j c.loop-j.loads.items w.in_default.ensures c.loop-j.invariant.1)
     ]
-
-pub returns : goal.returns
-returns g c =
-    let last : c.loop-j.j ≡ 64 = omega arith in
-    subst (λ n. Gathers (g.P.Pick.picks c.args.picker.now) (g.P.Pick.forms c.args.picker.now) n c.loop-j.loads.items) last c.loop-j.invariant.1

@@ -5,7 +5,7 @@ use Rattle.bounds.specs.Bounds.{ahead_bound, deadline_bound}
 use Rattle.bounds.specs.Lengths.{length_of}
 use Rattle.table.specs.Tasks.{listed}
 use Rattle.std.proofs.Common.{sym, ap, ◌∙◌}
-use mathlib.Core.Path.{fun_ext}
+use Rattle.std.proofs.Math.Path.{fun_ext}
 
 pub returns : goal.returns
 returns c =

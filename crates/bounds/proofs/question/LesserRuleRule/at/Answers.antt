@@ -4,7 +4,7 @@ use Rattle.bounds.proofs.question.LesserRuleRule.at.Goals as goal
 use Rattle.bounds.proofs.question.LesserRuleRule.at.Goals.{else-y-core, then-y-core}
 use Rattle.bounds.specs.Loads.{Total, no_sums, of_core}
 use Rattle.std.proofs.lemmas.List.{get_or-take, length-take}
-use native.Mathlib.Nat.{min-le_right}
+use Rattle.std.proofs.Math.Nat.{min-le_right}
 
 pub loop-y-init : goal.loop-y-init
 loop-y-init c = (so_far_none c.args.self.now.board.now c.args.self.now.own.now c.args.self.now.rivals.now.items c.args.window.length c.sums-own.result c.sums-own.ensures.value, c.sums-own.ensures.small.cost)

@@ -9,5 +9,5 @@ use Rattle.table.specs.Rows.{on_board}
 pub returns : goal.returns
 unfolding start
 returns c =
-    let self = c.args.self.now in
-    fill_by_all (λ k. cond (on_board self.table.board self.rows.now k) (cost self.rows.now k) 0) c.from_fn.result 64 0 c.from_fn.ensures.items.long (made_at _ _ (λ k. cond (on_board self.table.board self.rows.now k) (cost self.rows.now k) 0) (λ i y q h. search rules) c.from_fn.result 0 64 c.from_fn.ensures.items.each)
+    fill_by_all (λ k. cond (on_board c.args.self.now.table.board c.args.self.now.rows.now k) (cost c.args.self.now.rows.now k) 0) c.from_fn.result 64 0 c.from_fn.ensures.items.long
+    (made_at _ _ (λ k. cond (on_board c.args.self.now.table.board c.args.self.now.rows.now k) (cost c.args.self.now.rows.now k) 0) (λ i y q h. search rules) c.from_fn.result 0 64 c.from_fn.ensures.items.each)
