@@ -12,6 +12,8 @@ use crate::prepared::CheckedTable;
 use table::set::TaskSet;
 use table::tasks::{NUMBERS, Tasks};
 
+// A trait and no closure: whom it picks, and how, stands in its ghost members, which a closure would have
+// to hand over beside it, with a `requires` for each.
 pub(crate) trait Pick {
     // Which numbers are picked.
     ghost picks: { Self → ℕ → Bool };
@@ -24,12 +26,13 @@ pub(crate) trait Pick {
         ensures { Picked (picks self.now number) (forms self.now number) result };
 }
 
+// By `push`, which cannot fail here: `collect` could, and a test may not.
 pub(crate) fn gather<P: Pick>(picker: &P) -> Loads
     ensures { Gathers (P.picks picker.now) (P.forms picker.now) 64 result.items }
 {
     let mut loads = Loads::new();
-    for j in 0..NUMBERS {
-        if let Some(load) = picker.pick(j) {
+    for number in 0..NUMBERS {
+        if let Some(load) = picker.pick(number) {
             loads.push(load);
         }
     }

@@ -40,7 +40,8 @@ impl Ranked<'_> {
         }
     }
 
-    // One round: the bounds from the list before it, or the smallest number that has none.
+    // One round: the bounds from the list before it, or the smallest number that has none. By a loop:
+    // `array::try_from_fn` tells that a number has none, and not that it is the smallest.
     fn round(&self, before: Lengths) -> Result<[u32; 64], usize>
         ensures { result ≡ round_after self.now.table.board self.now.rows.now before.of }
     {

@@ -4,20 +4,20 @@ use Rattle.bounds.proofs.gathering.gather.Goals as goal
 use Rattle.bounds.proofs.gathering.gather.Goals.{in-Some, in_default}
 use Rattle.bounds.specs.Gathering.{Gathers}
 
-pub loop-j-init : goal.loop-j-init
-loop-j-init g c = subst (λ xs. (length xs ≤ 0) × Gathers (g.P.Pick.picks c.args.picker.now) (g.P.Pick.forms c.args.picker.now) 0 xs) (sym c.new-loads.ensures) (omega arith, gathers_none _ _)
+pub loop-number-init : goal.loop-number-init
+loop-number-init g c = subst (λ xs. (length xs ≤ 0) × Gathers (g.P.Pick.picks c.args.picker.now) (g.P.Pick.forms c.args.picker.now) 0 xs) (sym c.new-loads.ensures) (omega arith, gathers_none _ _)
 
-pub loop-j-preserved : goal.loop-j-preserved
-loop-j-preserved g c =
+pub loop-number-preserved : goal.loop-number-preserved
+loop-number-preserved g c =
     let picks = g.P.Pick.picks c.args.picker.now in
     let forms = g.P.Pick.forms c.args.picker.now in
-    let j = c.loop-j.j in
+    let j = c.loop-number.number in
     elim c.match-pick.branch [
       | in-Some w ↦
           let picked = w.in-Some.ensures in
           subst (λ x. (length x.items ≤ j + 1) × Gathers picks forms (j + 1) x.items) (sym w.loads-is)
-          (omega (arith, w.push.ensures.len, c.loop-j.invariant.0), subst (Gathers picks forms (j + 1)) (sym w.push.ensures.items) (gathers_yes picks forms j c.loop-j.loads.items w.in-Some.load picked.0 picked.1 c.loop-j.invariant.1))
+          (omega (arith, w.push.ensures.len, c.loop-number.invariant.0), subst (Gathers picks forms (j + 1)) (sym w.push.ensures.items) (gathers_yes picks forms j c.loop-number.loads.items w.in-Some.load picked.0 picked.1 c.loop-number.invariant.1))
       | in_default w ↦
           subst (λ x. (length x.items ≤ j + 1) × Gathers picks forms (j + 1) x.items) (sym w.loads-is)
-          (omega (arith, c.loop-j.invariant.0), gathers_no picks forms j c.loop-j.loads.items w.in_default.ensures c.loop-j.invariant.1)
+          (omega (arith, c.loop-number.invariant.0), gathers_no picks forms j c.loop-number.loads.items w.in_default.ensures c.loop-number.invariant.1)
     ]
