@@ -1,8 +1,9 @@
 -- What tasks that were checked once say: which are on the board, and what the rows say that they came from.
-use Rattle.std.proofs.Common.{◌≡◌, ℕ, ◌<◌, ◌≤◌, Bool, true, false, cond, ltb, List, Some, None, Option, MatchOption, sym, refl, ap, ◌∙◌, subst, arith}
+use Rattle.std.proofs.Common.{◌≡◌, ℕ, ◌<◌, ◌≤◌, Bool, true, false, cond, ltb, List, Some, None, Option, MatchOption, sym, refl, ap, ◌∙◌, subst}
 use Rattle.bounds.specs.Demand.{cost}
 use Rattle.bounds.specs.Questions.{Found}
 use Rattle.std.proofs.lemmas.Bool.{cond-false, cond-true, ltb-false, ltb-true}
+use Rattle.std.proofs.lemmas.Option.{none-some}
 use Rattle.std.specs.Bool.{then_some}
 use Rattle.table.proofs.Places.{off_board, off_cores, on_board_from, on_board_task}
 use Rattle.table.proofs.Plains.{plain_figures, plain_on_board}
@@ -17,7 +18,7 @@ use Rattle.table.specs.declared.tasks.Tasks.{Tasks}
 -- of the tasks, those on a core of the board are kept
 pub kept : (board : Board) (tasks : Tasks) (j : ℕ) (R : Task → Bool → Type 0) → ((task : Task) (b : Bool) → R task b → b ≡ ltb task.core board.cores) → (o r : Option Task) → slot tasks j ≡ o → MatchOption o (r ≡ None) (λ task. (b : Bool) × R task b × (r ≡ then_some b task)) → Found board (listed tasks) j r
 kept board tasks j R tested None None at h = off_board board (listed tasks) j (slot_none tasks j at)
-kept board tasks j R tested None (Some task) at h = absurd (let z : ◌≡◌ {A = ℕ} 0 1 = cc in omega arith)
+kept board tasks j R tested None (Some task) at h = absurd (none-some task (sym h))
 kept board tasks j R tested (Some task) r at h = go (ltb task.core board.cores) refl r (h.2 ∙ ap (λ b. then_some b task) (tested task h.0 h.1))
   where
     row : row_at (listed tasks) j ≡ row_of (Some task)

@@ -26,6 +26,7 @@ pub(crate) struct Load {
     ghost weight_high: { all_small weight ≡ true },
 }
 
+// The loads of as many tasks as there can be.
 pub(crate) type Loads = ArrayVec<Load, 64>;
 
 // Sums in one window: of execution, and of contention on each resource.

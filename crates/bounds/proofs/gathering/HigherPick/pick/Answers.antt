@@ -6,6 +6,7 @@ use Rattle.table.proofs.Places.{off_core, on_core_from, other_core}
 use Rattle.table.proofs.Slots.{slot_none, slot_row, slot_task}
 use Rattle.table.specs.declared.row.Row.{Row}
 
+-- a number that is not sent away is another member
 another : (a b : Bool) → (not a || b) ≡ false → (a && not b) ≡ true
 another true true e = absurd (false≢true (sym e))
 another true false e = refl
