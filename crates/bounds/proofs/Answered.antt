@@ -23,8 +23,8 @@ use Rattle.table.specs.declared.row.Figures.{Figures}
 use Rattle.table.specs.declared.row.Row.{Row}
 use Rattle.table.specs.declared.task.Task.{Task}
 use Rattle.table.specs.declared.tasks.Tasks.{Tasks}
-use mathlib.Core.Path.{fun_ext}
-use native.Mathlib.Nat.{min-eq_left}
+use Rattle.std.proofs.Math.Nat.{min-eq_left}
+use Rattle.std.proofs.Math.Path.{fun_ext}
 
 pub answered : (rule : Rule) (board : Board) (rows : List Row) (i : ℕ) (set : Set) (own : Own) (value : ℕ → ℕ) (answer : Option ℕ) → Asks board rows i set own → ((t : ℕ) → value t ≡ rule board rows i set t) → Rising (rule board rows i set) → (Rising value → answer ≡ solution value (min own.task.figures.deadline 10000000)) → answer ≡ bound_by rule board rows i set
 answered rule board rows i set own value answer asks same rising climbed =
@@ -59,5 +59,5 @@ deadlines_told board rows list told = fun_ext (λ i. fun_ext (λ set. go i set (
         let task = on_board_task board rows i on in
         ap (λ o. cond (on_board board rows i) o None)
         (solution_same (lesser_rule (length_of list) board rows i set) (deadline_rule board rows i set)
-        (lesser_alike rows rows (core rows i) i (on_core_from rows (core rows i) i task refl) (alike_self rows (core rows i)) board set (length_of list) (deadline rows) (alike_self rows) (λ y j there. told.is j (on_core_task rows y j there)))
+        (lesser_alike rows rows (core rows i) i (on_core_from rows (core rows i) i task refl) (alike_self rows (core rows i)) board set (length_of list) (deadline rows) (alike_self rows) (λ y j there. told j (on_core_task rows y j there)))
         (deadline rows i))

@@ -7,11 +7,9 @@ use Rattle.bounds.specs.Endings.{Ends, Moving, list_in, list_of, next_list}
 use Rattle.bounds.specs.Rounds.{Answer, ended, response, round_after, rounds, same, settled, start, the_answer}
 use Rattle.bounds.specs.Solutions.{SettlesLeast}
 use Rattle.std.proofs.lemmas.Bool.{both_ways, cases_Bool, cases_eq, cond-false, cond-true}
+use Rattle.std.proofs.lemmas.Option.{same_Some}
 use Rattle.table.specs.declared.board.Board.{Board}
 use Rattle.table.specs.declared.row.Row.{Row}
-
-some_same : {X : Type 0} {x y : X} → ◌≡◌ {A = Option X} (Some x) (Some y) → x ≡ y
-some_same e = cc
 
 module _ (board : Board) (rows : List Row) where
   list_next : (b : ℕ) (list : List ℕ) (q : Result (List ℕ) ℕ) → list_of board rows b ≡ Some list → round_after board rows list ≡ q → list_of board rows (suc b) ≡ list_in q
@@ -23,7 +21,7 @@ module _ (board : Board) (rows : List Row) where
       elim (cases_eq k b) [
         | inl here ↦
             let z : k + 1 ≡ suc b = omega arith in
-            let eq : next ≡ list = some_same (sym new ∙ ap (list_of board rows) (sym z) ∙ e ∙ ap (list_of board rows) here ∙ old) in
+            let eq : next ≡ list = same_Some _ _ (sym new ∙ ap (list_of board rows) (sym z) ∙ e ∙ ap (list_of board rows) here ∙ old) in
             both_ways (same next list) differ ((same_decides next list).1 eq)
         | inr other ↦ moving k (omega arith) e
       ]
@@ -60,12 +58,12 @@ module _ (board : Board) (rows : List Row) where
     ended_means : (k : ℕ) (q : Result (List ℕ) ℕ) (rest : List ℕ → Option Answer) (r : Answer) → k ≡ b + 1 → round_after board rows list ≡ q → ((next : List ℕ) → Fair board rows next → list_of board rows (suc b) ≡ Some next → Moving board rows (suc b) → rest next ≡ Some r → Meant r) → ended k list q rest ≡ Some r → Meant r
     ended_means k (Ok next) rest r counted is on e =
         elim (cases_Bool (same next list)) [
-          | inl eq ↦ subst Meant (some_same (sym (cond-true _ _ _ eq) ∙ e)) (meant_same k next counted is ((same_decides next list).0 eq))
+          | inl eq ↦ subst Meant (same_Some _ _ (sym (cond-true _ _ _ eq) ∙ e)) (meant_same k next counted is ((same_decides next list).0 eq))
           | inr differ ↦
               let new = list_next b list (Ok next) old is in
               on next (fair_next board rows list next is fair) new (moving_more b list next old new differ moving) (sym (cond-false _ _ _ differ) ∙ e)
         ]
-    ended_means k (Err i) rest r counted is on e = subst Meant (some_same e) (meant_refused k i counted is)
+    ended_means k (Err i) rest r counted is on e = subst Meant (same_Some _ _ e) (meant_refused k i counted is)
 
   rounds_mean : (n b k : ℕ) (list : List ℕ) (r : Answer) → k ≡ b + 1 → Fair board rows list → list_of board rows b ≡ Some list → Moving board rows b → rounds board rows n k list ≡ Some r → Meant r
   unfolding rounds

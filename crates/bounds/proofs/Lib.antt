@@ -9,3 +9,4 @@ pub mod Fair
 pub mod Falling
 pub mod Ended
 pub mod Checked
+pub mod Made

@@ -5,11 +5,11 @@ use Rattle.std.proofs.Common.{◌≡◌, ℕ, zero, suc, ◌+◌, ◌-◌, ◌*�
 use Rattle.bounds.specs.Adding.{sum_same}
 use Rattle.bounds.specs.Demand.{above, core, cost, execution, period, releases, sensitivity, stress, total_sensitivity, total_stress}
 use Rattle.bounds.specs.Gathering.{Gathers, rival_form}
-use Rattle.bounds.specs.Loads.{held, weight_at}
+use Rattle.bounds.specs.Loads.{weight_at}
 use Rattle.bounds.specs.Questions.{Asks, inflicted, lesser_side, own_cost, own_shared, sensitivity_side}
 use Rattle.bounds.specs.Rules.{composable_rule, contention, lesser_rule}
 use Rattle.bounds.specs.Sums.{sum_to}
-use Rattle.bounds.specs.declared.load.Loads.{Loads}
+use Rattle.bounds.specs.declared.load.Load.{Load}
 use Rattle.bounds.specs.declared.question.Own.{Own}
 use Rattle.std.proofs.lemmas.Bool.{cases_order, cond-false, cond-true, eq-eqb, eqb-true, lt-ltb, ne_eqb}
 use Rattle.table.proofs.Places.{on_board_core}
@@ -23,7 +23,7 @@ module _ (board : Board) (rows : List Row) (i : ℕ) (set : Set) (own : Own) (as
   pub meets_execution : (t : ℕ) → own_cost own t ≡ execution rows i set t
   unfolding execution
   meets_execution t =
-      ap (λ (f : Figures). f.cost + sum_by (λ x. releases (t + x.ahead) x.period * x.cost) (held own.higher)) asks.figures_is
+      ap (λ (f : Figures). f.cost + sum_by (λ x. releases (t + x.ahead.length) x.period * x.cost) own.higher.items) asks.figures_is
       ∙ ap (λ n. cost rows i + n)
       (asks.gathers (λ q. releases (t + q.ahead) q.period * q.cost)
       ∙ ap (λ s. sum_to 64 (λ j. cond (above rows i set j) (releases s (period rows j) * cost rows j) 0)) (add-zero t))
@@ -31,7 +31,7 @@ module _ (board : Board) (rows : List Row) (i : ℕ) (set : Set) (own : Own) (as
   pub meets_sensitivity : (r t : ℕ) → own_shared own r t ≡ total_sensitivity rows i set r t
   unfolding total_sensitivity
   meets_sensitivity r t =
-      ap (λ (f : Figures). get_or f.sensitivity r 0 + sum_by (weight_at r t) (held own.higher)) asks.figures_is
+      ap (λ (f : Figures). get_or f.sensitivity r 0 + sum_by (weight_at r t) own.higher.items) asks.figures_is
       ∙ ap (λ n. sensitivity rows r i + n)
       (asks.gathers (λ q. releases (t + q.ahead) q.period * get_or q.weight r 0)
       ∙ ap (λ s. sum_to 64 (λ j. cond (above rows i set j) (releases s (period rows j) * sensitivity rows r j) 0)) (add-zero t))
@@ -49,13 +49,13 @@ of_board true c y m v l = go (eqb c y) refl
     go true e = cond-true (ltb c m) (cond (eqb c y) v 0) 0 (lt-ltb c m (omega (arith, eqb-true c y e)))
     go false e = ap (λ n. cond (ltb c m) n 0) (cond-false (eqb c y) v 0 e) ∙ same (ltb c m) ∙ sym (cond-false (eqb c y) v 0 e)
 
-pub meets_stress : (board : Board) (rows : List Row) (ahead : ℕ → ℕ) (rivals : Loads) → Gathers (on_board board rows) (λ j. rival_form (ahead j) (row_at rows j)) 64 rivals → (r y t : ℕ) → y < board.cores → inflicted rivals r y t ≡ total_stress rows ahead r y t
+pub meets_stress : (board : Board) (rows : List Row) (ahead : ℕ → ℕ) (rivals : List Load) → Gathers (on_board board rows) (λ j. rival_form (ahead j) (row_at rows j)) 64 rivals → (r y t : ℕ) → y < board.cores → inflicted rivals r y t ≡ total_stress rows ahead r y t
 unfolding total_stress on_board on_core
 meets_stress board rows ahead rivals gathers r y t l =
     gathers (λ q. cond (eqb q.core y) (releases (t + q.ahead) q.period * get_or q.weight r 0) 0)
     ∙ sum_same 64 _ _ (λ j _. of_board (is_task rows j) (core rows j) y board.cores (releases (t + ahead j) (period rows j) * stress rows r j) l)
 
-pub lesser_meets : (board : Board) (rows : List Row) (i : ℕ) (set : Set) (ahead : ℕ → ℕ) (own : Own) (rivals : Loads) → Asks board rows i set own → Gathers (on_board board rows) (λ j. rival_form (ahead j) (row_at rows j)) 64 rivals → (t : ℕ) → lesser_side board own rivals t ≡ lesser_rule ahead board rows i set t
+pub lesser_meets : (board : Board) (rows : List Row) (i : ℕ) (set : Set) (ahead : ℕ → ℕ) (own : Own) (rivals : List Load) → Asks board rows i set own → Gathers (on_board board rows) (λ j. rival_form (ahead j) (row_at rows j)) 64 rivals → (t : ℕ) → lesser_side board own rivals t ≡ lesser_rule ahead board rows i set t
 unfolding contention
 lesser_meets board rows i set ahead own rivals asks gathers t =
     ap (λ n. n + contention board own.task.core (λ r y. min (inflicted rivals r y t) (own_shared own r t))) (meets_execution board rows i set own asks t)

@@ -1,6 +1,6 @@
 -- Rules agree on lists that are alike: on the own core that is enough for what is executed and suffered, and on every
 -- core for what is inflicted. They agree on sets with the same members above.
-use Rattle.std.specs.Prelude.{◌≡◌, ℕ, ◌+◌, ◌*◌, min, Bool, true, false, not, ◌&&◌, List, ◌==◌, ◌≢◌, slice_index, refl}
+use Rattle.std.specs.Prelude.{◌≡◌, ℕ, ◌+◌, ◌*◌, min, true, false, not, ◌&&◌, List, ◌==◌, ◌≢◌, slice_index}
 use Rattle.bounds.specs.Adding.{over_same}
 use Rattle.bounds.specs.Demand.{above, core, cost, execution, period, releases, sensitivity, stress, total_sensitivity, total_stress}
 use Rattle.bounds.specs.Rules.{composable_rule, contention, lesser_rule}
@@ -14,6 +14,7 @@ use Rattle.table.specs.declared.board.Board.{Board}
 use Rattle.table.specs.declared.row.Figures.{Figures}
 use Rattle.table.specs.declared.row.Row.{Row}
 use Rattle.std.proofs.Common.{inl, inr, ◌∙◌, sym}
+use Rattle.std.proofs.Math.Bool.{and-false}
 use Rattle.std.proofs.Math.Path.{ap, fun_ext}
 
 pub contention_same : (board : Board) (x : ℕ) (f g : ℕ → ℕ → ℕ) → ((r y : ℕ) → f r y ≡ g r y) → contention board x f ≡ contention board x g
@@ -80,19 +81,15 @@ module _ (rows other : List Row) (x i : ℕ) (on : on_core rows x i ≡ true) (a
 
 -- sets that agree on the other tasks of i's core have the same members above
 
-and_false : (b : Bool) → (b && false) ≡ false
-and_false true = refl
-and_false false = refl
-
 pub above_same : (rows : List Row) (i : ℕ) (G H : Set) → ((j : ℕ) → (j ≢ i) → on_core rows (core rows i) j ≡ true → G j ≡ H j) → above rows i G ≡ above rows i H
 unfolding above
 above_same rows i G H agree = fun_ext go
   where
     left : (j : ℕ) → j ≡ i → (set : Set) → ((set j && not (j == i)) && on_core rows (core rows i) j) ≡ false
-    left j same set = ap (λ b. (set j && not b) && on_core rows (core rows i) j) (eq-eqb j i same) ∙ ap (λ b. b && on_core rows (core rows i) j) (and_false (set j))
+    left j same set = ap (λ b. (set j && not b) && on_core rows (core rows i) j) (eq-eqb j i same) ∙ ap (λ b. b && on_core rows (core rows i) j) (and-false (set j))
 
     right : (j : ℕ) → on_core rows (core rows i) j ≡ false → (set : Set) → ((set j && not (j == i)) && on_core rows (core rows i) j) ≡ false
-    right j off set = ap (λ b. (set j && not (j == i)) && b) off ∙ and_false (set j && not (j == i))
+    right j off set = ap (λ b. (set j && not (j == i)) && b) off ∙ and-false (set j && not (j == i))
 
     go : (j : ℕ) → ((G j && not (j == i)) && on_core rows (core rows i) j) ≡ ((H j && not (j == i)) && on_core rows (core rows i) j)
     go j =

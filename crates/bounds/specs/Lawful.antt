@@ -8,7 +8,7 @@ use Rattle.bounds.specs.Rules.{Rule}
 use Rattle.least.proofs.Smaller.{smaller_solution}
 use Rattle.least.proofs.Solutions.{solution_least, solution_same}
 use Rattle.least.specs.Least.{AnswersLeast, Least, Rising, Unsolved, solution}
-use Rattle.std.proofs.lemmas.Option.{MatchOption-at_some}
+use Rattle.std.proofs.lemmas.Option.{MatchOption-at_some, none-some, same_Some}
 use Rattle.std.proofs.lemmas.Bool.{both_ways, cases_Bool, cond-false, cond-true}
 use Rattle.table.proofs.Places.{off_board, on_core_from, on_core_task}
 use Rattle.table.proofs.Plains.{Alike, alike_no_task, own_alike, plain_alike}
@@ -34,16 +34,10 @@ pub record RuleLaws (wide : Bool) (rule : Rule) : Type 0 where
   -- and if it is not wide, only those of the own core
   pub own : wide ≡ false → (board : Board) (rows other : List Row) (x i : ℕ) (set : Set) → on_core rows x i ≡ true → Alike x rows other → (t : ℕ) → rule board rows i set t ≡ rule board other i set t
 
-none_some : (t : ℕ) → ◌≡◌ {A = Option ℕ} None (Some t) → ⊥
-none_some t e = let z : ◌≡◌ {A = ℕ} 0 1 = cc in omega arith
-
-some_inj : (s t : ℕ) → ◌≡◌ {A = Option ℕ} (Some s) (Some t) → s ≡ t
-some_inj s t e = cc
-
 no_later : (o p : Option ℕ) → ((t : ℕ) → o ≡ Some t → (s : ℕ) × (p ≡ Some s) × (s ≤ t)) → NoLater o p
 no_later None p h = tt
-no_later (Some b) None h = absurd (let k = h b refl in none_some k.0 k.1)
-no_later (Some b) (Some c) h = let k = h b refl in let e = some_inj c k.0 k.1 in let l = k.2 in omega arith
+no_later (Some b) None h = absurd (let k = h b refl in none-some k.0 k.1)
+no_later (Some b) (Some c) h = let k = h b refl in let e = same_Some c k.0 k.1 in let l = k.2 in omega arith
 
 module _ (rule : Rule) where
   -- a bound is the least solution within the deadline
@@ -110,5 +104,5 @@ module _ (rule : Rule) where
             | inl on ↦
                 let k = smaller_solution (rule board rows i G) (rule board rows i H) (deadline rows i) (laws.rising board rows i G on) (laws.fewer board rows i G H within) t (sym (cond-true (on_board board rows i) (solution (rule board rows i H) (deadline rows i)) None on) ∙ e) in
                 (k.0, cond-true (on_board board rows i) (solution (rule board rows i G) (deadline rows i)) None on ∙ k.1, k.2)
-            | inr off ↦ absurd (none_some t (sym (cond-false (on_board board rows i) (solution (rule board rows i H) (deadline rows i)) None off) ∙ e))
+            | inr off ↦ absurd (none-some t (sym (cond-false (on_board board rows i) (solution (rule board rows i H) (deadline rows i)) None off) ∙ e))
           ]

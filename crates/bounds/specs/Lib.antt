@@ -12,8 +12,9 @@ pub mod Settling
 pub mod Loads
 pub mod Gathering
 pub mod Questions
--- The laws of the two tests, with their proofs: an implementation cites them, so they stand here. No definition is among
--- them but `RuleLaws`, which says what a rule has to keep.
+-- The laws of the two tests, with their proofs: the language needs them here, since the proof of an implementation's law
+-- cites no lemma of its own crate but those of specs/. No definition is among them but `RuleLaws`, which says what a rule
+-- has to keep.
 pub mod Adding
 pub mod Agreeing
 pub mod Fewer

@@ -1,22 +1,12 @@
 -- What a list of loads adds up to in a window of length t.
-use Rattle.std.specs.Prelude.{◌≡◌, ℕ, ◌+◌, ◌*◌, ◌<◌, ◌≤◌, Bool, true, cond, List, [], ◌∷◌, ◌++◌, take, sum_by, ◌==◌, slice_index}
+use Rattle.std.specs.Prelude.{◌≡◌, ℕ, ◌+◌, ◌*◌, ◌<◌, ◌≤◌, Bool, true, cond, List, [], sum_by, ◌==◌, slice_index}
 use Rattle.bounds.specs.Demand.{releases}
 use Rattle.bounds.specs.declared.load.Load.{Load}
-use Rattle.bounds.specs.declared.load.Loads.{Loads}
 use Rattle.bounds.specs.declared.load.Sums.{Sums}
-
--- the loads that a list holds
-abbrev pub held : Loads → List Load
-held loads = take loads.n loads.list
-
--- a list with one load more
-pub record Adds (before : Loads) (load : Load) (after : Loads) : Type 0 where
-  pub count : after.n ≡ before.n + 1
-  pub loads : held after ≡ held before ++ load ∷ []
 
 -- releases of a load that the window sees
 abbrev pub seen : ℕ → Load → ℕ
-seen t load = releases (t + load.ahead) load.period
+seen t load = releases (t + load.ahead.length) load.period
 
 -- what a load adds: execution, and on resource r
 abbrev pub cost_at : ℕ → Load → ℕ

@@ -1,9 +1,10 @@
 -- Settling into a list that the caller lends: the answer, and the list afterwards.
-use Rattle.std.specs.Prelude.{◌≡◌, ℕ, ◌<◌, ◌≤◌, min, cond, List, ◌++◌, length, take, drop, Ok, Err, Result, MatchResult, nat_lt}
+use Rattle.std.specs.Prelude.{◌≡◌, ℕ, ◌<◌, ◌≤◌, cond, List, ◌++◌, length, take, drop, Ok, Err, Result, MatchResult, nat_lt}
 use Rattle.bounds.specs.Rounds.{Answer, settled}
 use Rattle.bounds.specs.Solutions.{JointSolution, LeastJoint}
 use Rattle.bounds.specs.declared.response.Unsettled.TheVariants.{NoBound, TooShort}
 use Rattle.bounds.specs.declared.response.Unsettled.{Unsettled}
+use Rattle.table.specs.Rows.{capacity}
 use Rattle.table.specs.declared.board.Board.{Board}
 use Rattle.table.specs.declared.refusal.Refusal.TheVariants as refusal
 use Rattle.table.specs.declared.refusal.Refusal.{Refusal}
@@ -13,10 +14,6 @@ use Rattle.table.specs.declared.row.Row.{Row}
 abbrev pub refusal_of : Unsettled → Refusal
 refusal_of TooShort = refusal.BufferTooShort
 refusal_of (NoBound u) = refusal.NoBound
-
--- how many numbers a row list has: its length, or 64 if that is less
-abbrev pub capacity : List Row → ℕ
-capacity rows = min (length rows) 64
 
 -- the round, or why it is refused
 abbrev pub told_round : Answer → Result ℕ Unsettled

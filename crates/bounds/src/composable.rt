@@ -13,7 +13,7 @@ use table::row::Row;
 use table::set::TaskSet;
 use table::testing::Test;
 
-#[derive(Clone, Copy)]
+#[derive(Clone, Copy, PartialEq, Eq, Debug)]
 pub struct Composable;
 
 impl Test for Composable {

@@ -14,7 +14,7 @@ use table::row::Row;
 use table::set::TaskSet;
 use table::testing::Test;
 
-#[derive(Clone, Copy)]
+#[derive(Clone, Copy, PartialEq, Eq, Debug)]
 pub struct Deadline;
 
 impl Test for Deadline {
@@ -28,7 +28,7 @@ impl Test for Deadline {
 
     ghost meaning = { λ _. deadline_bound };
 
-    ghost answers = { λ _ p. ahead_bound (length_of p.ahead) p.table.board (listed p.table.tasks) };
+    ghost answers = { λ _ p. ahead_bound (length_of p.ahead.of) p.table.board (listed p.table.tasks) };
 
     ghost laws = { λ _. deadline_laws };
 

@@ -1,16 +1,19 @@
 // The one text that gathers the loads of the tasks that are picked, and who picks.
-ghost use Rattle.std.specs.Prelude.{ℕ, ◌<◌, ◌≤◌, Bool, not, ◌&&◌, ◌==◌, slice_index};
+ghost use Rattle.std.specs.Prelude.{ℕ, ◌<◌, Bool, not, ◌&&◌, ◌==◌};
 ghost use Rattle.bounds.specs.Gathering.{Form, Gathers, Picked, higher_form, rival_form};
 ghost use Rattle.bounds.specs.Lengths.{length_of};
 ghost use Rattle.table.specs.Rows.{on_board, on_core, row_at};
 ghost use Rattle.table.specs.Sets.{members};
 ghost use Rattle.table.specs.Tasks.{listed};
 
+use crate::lengths::Lengths;
 use crate::load::{Load, Loads};
 use crate::prepared::CheckedTable;
 use table::set::TaskSet;
 use table::tasks::{NUMBERS, Tasks};
 
+// A trait and no closure: whom it picks, and how, stands in its ghost members, which a closure would have
+// to hand over beside it, with a `requires` for each.
 pub(crate) trait Pick {
     // Which numbers are picked.
     ghost picks: { Self → ℕ → Bool };
@@ -23,12 +26,13 @@ pub(crate) trait Pick {
         ensures { Picked (picks self.now number) (forms self.now number) result };
 }
 
+// By `push`, which cannot fail here: `collect` could, and a test may not.
 pub(crate) fn gather<P: Pick>(picker: &P) -> Loads
-    ensures { Gathers (P.picks picker.now) (P.forms picker.now) 64 result }
+    ensures { Gathers (P.picks picker.now) (P.forms picker.now) 64 result.items }
 {
     let mut loads = Loads::new();
-    for j in 0..NUMBERS {
-        if let Some(load) = picker.pick(j) {
+    for number in 0..NUMBERS {
+        if let Some(load) = picker.pick(number) {
             loads.push(load);
         }
     }
@@ -51,14 +55,14 @@ impl Pick for Higher<'_> {
     ghost forms = { λ x j. higher_form (row_at (listed x.tasks.now) j) };
 
     fn pick(&self, number: usize) -> Option<Load> {
-        if self.above.flags[number] & (number != self.number) {
-            if let Some(task) = self.tasks.at(number) {
-                if task.core == self.core {
-                    return Some(Load::higher(&task));
-                }
-            }
+        if !self.above.flags[number] | (number == self.number) {
+            return None;
         }
-        None
+        let task = self.tasks.at(number)?;
+        if task.core != self.core {
+            return None;
+        }
+        Some(Load::higher(&task))
     }
 }
 
@@ -67,19 +71,16 @@ impl Pick for Higher<'_> {
 pub(crate) struct Rivals<'a> {
     pub(crate) table: &'a CheckedTable,
     // How long before the window the releases of each are counted from.
-    pub(crate) ahead: &'a [u32; 64],
-    ghost ahead_small: { (j : ℕ) → slice_index ahead.now j ≤ 10000000 },
+    pub(crate) ahead: &'a Lengths,
 }
 
 impl Pick for Rivals<'_> {
     ghost picks = { λ x j. on_board x.table.now.board (listed x.table.now.tasks) j };
 
-    ghost forms = { λ x j. rival_form (length_of x.ahead.now j) (row_at (listed x.table.now.tasks) j) };
+    ghost forms = { λ x j. rival_form (length_of x.ahead.now.of j) (row_at (listed x.table.now.tasks) j) };
 
     fn pick(&self, number: usize) -> Option<Load> {
-        match self.table.task(number) {
-            Some(task) => Some(Load::rival(&task, self.ahead[number])),
-            None => None,
-        }
+        let task = self.table.task(number)?;
+        Some(Load::rival(&task, self.ahead.at(number)))
     }
 }

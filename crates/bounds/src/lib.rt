@@ -15,3 +15,5 @@ mod question;
 mod gathering;
 // How a task weighs on another, and sums of such loads.
 mod load;
+// Lengths by task number.
+mod lengths;

@@ -4,6 +4,7 @@ ghost use Rattle.bounds.specs.Lengths.{length_of};
 ghost use Rattle.table.specs.Rows.{on_board, row_at};
 ghost use Rattle.table.specs.Tasks.{listed};
 
+use crate::lengths::Lengths;
 use crate::load::Loads;
 use table::board::Board;
 use table::tasks::Tasks;
@@ -19,10 +20,10 @@ pub struct CheckedTable {
 
 // The same, with the loads of all tasks on the tasks of other cores. Their releases are counted
 // from a length before the window that each number has.
-#[derive(Clone, Copy)]
+#[derive(Drop)]
 pub struct RivalTable {
     pub(crate) table: CheckedTable,
-    pub(crate) ahead: [u32; 64],
+    pub(crate) ahead: Lengths,
     pub(crate) rivals: Loads,
-    ghost gathered: { Gathers (on_board table.board (listed table.tasks)) (λ j. rival_form (length_of ahead j) (row_at (listed table.tasks) j)) 64 rivals },
+    ghost gathered: { Gathers (on_board table.board (listed table.tasks)) (λ j. rival_form (length_of ahead.of j) (row_at (listed table.tasks) j)) 64 rivals.items },
 }

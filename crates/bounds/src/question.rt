@@ -3,58 +3,56 @@ ghost use Rattle.std.specs.Prelude.{◌^◌, ◌≤◌};
 ghost use Rattle.bounds.specs.Loads.{AtMost};
 ghost use Rattle.bounds.specs.Questions.{SumsOf, lesser_side, own_cost, sensitivity_side};
 
-use crate::load::{Loads, Sums, lesser, total};
-use least::Rule;
+use crate::load::{Loads, Sums, lesser, sums, sums_by_core, total};
+use least::{Rule, Window};
 use table::board::Board;
 use table::task::Task;
 
 // A task and the loads of those that count as higher.
-#[derive(Clone, Copy)]
+#[derive(Drop)]
 pub(crate) struct Own {
     pub(crate) task: Task,
     pub(crate) higher: Loads,
 }
 
 impl Own {
-    // Execution, and for each resource what can be suffered, in a window of length t.
-    fn sums(&self, t: u32) -> Sums
-        requires { t ≤ 10000000 }
-        ensures value { SumsOf self.now t result }
+    // Execution, and for each resource what can be suffered, in a window.
+    fn sums(&self, window: Window) -> Sums
+        ensures value { SumsOf self.now window.length result }
         ensures small { AtMost (2 ^ 54) result }
     {
-        let x = self.task.figures.sensitivity;
         let start = Sums {
             cost: self.task.figures.cost as u64,
-            shared: [x[0] as u64, x[1] as u64, x[2] as u64, x[3] as u64],
+            shared: self.task.figures.sensitivity.map(|x| x as u64),
         };
-        self.higher.sums(start, t)
+        sums(&self.higher, start, window)
     }
 
     // The execution that every window has: one release of each.
     fn start(&self) -> u32
         ensures { result ≤ own_cost self.now 1 }
     {
-        let once = self.sums(1).cost;
+        let once = self.sums(Window { length: 1 }).cost;
         once.min(u32::MAX as u64) as u32
     }
 }
 
 // The composable test's: what can be suffered counts once for each other core.
 #[derive(Clone, Copy)]
-pub(crate) struct SensitivityRule {
-    pub(crate) board: Board,
-    pub(crate) own: Own,
+pub(crate) struct SensitivityRule<'a> {
+    pub(crate) board: &'a Board,
+    pub(crate) own: &'a Own,
 }
 
-impl Rule for SensitivityRule {
-    ghost value = { λ q. sensitivity_side q.board q.own };
+impl Rule for SensitivityRule<'_> {
+    ghost value = { λ q. sensitivity_side q.board.now q.own.now };
 
     fn start(&self) -> u32 {
         self.own.start()
     }
 
-    fn at(&self, t: u32) -> u64 {
-        let own = self.own.sums(t);
+    fn at(&self, window: Window) -> u64 {
+        let own = self.own.sums(window);
         let others = self.board.cores as u64 - 1;
         own.cost + others * total(&own.shared, self.board.resources as usize)
     }
@@ -64,28 +62,28 @@ impl Rule for SensitivityRule {
 // can be suffered.
 #[derive(Clone, Copy)]
 pub(crate) struct LesserRule<'a> {
-    pub(crate) board: Board,
-    pub(crate) own: Own,
+    pub(crate) board: &'a Board,
+    pub(crate) own: &'a Own,
     pub(crate) rivals: &'a Loads,
 }
 
 impl Rule for LesserRule<'_> {
-    ghost value = { λ q. lesser_side q.board q.own q.rivals.now };
+    ghost value = { λ q. lesser_side q.board.now q.own.now q.rivals.now.items };
 
     fn start(&self) -> u32 {
         self.own.start()
     }
 
-    fn at(&self, t: u32) -> u64 {
-        let own = self.own.sums(t);
-        let theirs = self.rivals.sums_by_core(t);
+    fn at(&self, window: Window) -> u64 {
+        let own = self.own.sums(window);
+        let theirs = sums_by_core(self.rivals, window);
         let core = self.own.task.core as usize;
         let cores = self.board.cores as usize;
         let resources = self.board.resources as usize;
         let mut sum = own.cost;
-        for y in 0..cores {
+        for (y, theirs) in theirs[..cores].iter().enumerate() {
             if y != core {
-                let shares = lesser(&theirs[y].shared, &own.shared);
+                let shares = lesser(&theirs.shared, &own.shared);
                 sum += total(&shares, resources);
             }
         }

@@ -13,21 +13,21 @@ pub use rounds::respond;
 pub use settling::settle;
 
 // The first round that equals the list before it, and the list: a bound for each task, else 0.
-#[derive(Clone, Copy)]
+#[derive(Clone, Copy, PartialEq, Eq, Debug)]
 pub struct Settled {
     pub round: u32,
     pub bounds: [u32; 64],
 }
 
 // The first round in which a task has no bound, and the smallest such number.
-#[derive(Clone, Copy)]
+#[derive(Clone, Copy, PartialEq, Eq, Debug)]
 pub struct Unbounded {
     pub task: usize,
     pub round: u32,
 }
 
 // Why nothing was settled.
-#[derive(Clone, Copy)]
+#[derive(Clone, Copy, PartialEq, Eq, Debug)]
 pub enum Unsettled {
     TooShort,
     NoBound(Unbounded),

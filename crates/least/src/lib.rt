@@ -1,11 +1,12 @@
 // The least solution of a recurrence `rule(t) = t`: one text for every rule that never falls.
 #![tactic(auto)]
 
-ghost use Rattle.std.specs.Prelude.{◌≡◌, ℕ, ◌≤◌, min};
+ghost use Rattle.std.specs.Prelude.{◌≡◌, ℕ, min};
 ghost use Rattle.least.specs.Least.{AnswersLeast, NoSolutionBelow, Rising, solution};
 
-// The longest window that is ever looked at, in microseconds.
-pub const LONGEST: u32 = 10_000_000;
+mod window;
+
+pub use window::{LONGEST, Window};
 
 // The right side of a recurrence, as a function of the window's length.
 pub trait Rule {
@@ -15,9 +16,8 @@ pub trait Rule {
     fn start(&self) -> u32
         ensures { NoSolutionBelow (value self.now) result };
 
-    fn at(&self, t: u32) -> u64
-        requires { t ≤ 10000000 }
-        ensures { result ≡ value self.now t };
+    fn at(&self, window: Window) -> u64
+        ensures { result ≡ value self.now window.length };
 }
 
 // The least t from 1 to the limit at which the rule gives t, or none. The climb goes from a window
@@ -30,7 +30,7 @@ pub fn climb<R: Rule>(rule: &R, limit: u32) -> Option<u32>
     let limit = limit.min(LONGEST);
     let mut t = rule.start().max(1);
     while t <= limit {
-        let next = rule.at(t);
+        let next = rule.at(Window { length: t });
         if next == t as u64 {
             return Some(t);
         }

@@ -1,10 +1,10 @@
-// Loads from tasks, and lists of them.
-ghost use Rattle.std.specs.Prelude.{◌≡◌, ◌<◌, ◌≤◌, Some};
+// Loads from tasks.
+ghost use Rattle.std.specs.Prelude.{◌≡◌, ◌<◌, Some};
 ghost use Rattle.bounds.specs.Gathering.{form, higher_form, rival_form};
-ghost use Rattle.bounds.specs.Loads.{Adds};
 ghost use Rattle.table.specs.Tasks.{row_of};
 
-use crate::load::{Load, Loads};
+use crate::load::Load;
+use least::Window;
 use table::task::Task;
 
 impl Load {
@@ -16,17 +16,16 @@ impl Load {
         Load {
             core: task.core,
             period: task.figures.period,
-            ahead: 0,
+            ahead: Window { length: 0 },
             cost: task.figures.cost,
             weight: task.figures.sensitivity,
         }
     }
 
     // How a task weighs on the tasks of other cores.
-    pub(crate) fn rival(task: &Task, ahead: u32) -> Load
-        requires core { task.now.core < 8 }
-        requires ahead { ahead ≤ 10000000 }
-        ensures { form result ≡ rival_form ahead (row_of (Some task.now)) }
+    pub(crate) fn rival(task: &Task, ahead: Window) -> Load
+        requires { task.now.core < 8 }
+        ensures { form result ≡ rival_form ahead.length (row_of (Some task.now)) }
     {
         Load {
             core: task.core,
@@ -38,29 +37,15 @@ impl Load {
     }
 }
 
-impl Loads {
-    pub(crate) fn new() -> Loads
-        ensures { result.n ≡ 0 }
-    {
-        let none = Load {
+// What an unused place of a list holds.
+impl Default for Load {
+    fn default() -> Load {
+        Load {
             core: 0,
             period: 1,
-            ahead: 0,
+            ahead: Window { length: 0 },
             cost: 0,
             weight: [0; 4],
-        };
-        Loads {
-            n: 0,
-            list: [none; 64],
         }
-    }
-
-    pub(crate) fn push(&mut self, load: Load)
-        requires { self.old.n < 64 }
-        ensures { Adds self.old load self.new }
-    {
-        let n = self.n;
-        self.list[n] = load;
-        self.n = n + 1;
     }
 }

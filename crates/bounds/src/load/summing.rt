@@ -1,18 +1,19 @@
 // Sums over loads: one division for each load and window.
 ghost use Rattle.std.specs.Prelude.{◌≡◌, ℕ, ◌*◌, ◌^◌, ◌<◌, ◌≤◌, min, slice_index, slice_index_or};
-ghost use Rattle.bounds.specs.Loads.{Added, AtMost, Total, every, held, no_sums, of_core, seen};
+ghost use Rattle.bounds.specs.Loads.{Added, AtMost, Total, every, no_sums, of_core, seen};
 ghost use Rattle.bounds.specs.Sums.{sum_to};
 
 use crate::load::{Load, Loads, Sums};
+use least::Window;
+use std::array;
 
 impl Load {
-    // Its releases in a window of length t, rounded up.
-    fn releases(&self, t: u32) -> u32
-        requires { t ≤ 10000000 }
-        ensures value { result ≡ seen t self.now }
+    // Its releases in a window, rounded up.
+    fn releases(&self, window: Window) -> u32
+        ensures value { result ≡ seen window.length self.now }
         ensures few { result ≤ 20000000 }
     {
-        (t + self.ahead + (self.period - 1)) / self.period
+        (window.length + self.ahead.length + (self.period - 1)) / self.period
     }
 }
 
@@ -31,6 +32,7 @@ impl Sums {
         let n = n as u64;
         Sums {
             cost: self.cost + n * load.cost as u64,
+            // Written out: by from_fn the closure's sums would have to fit at each of its calls.
             shared: [
                 self.shared[0] + n * load.weight[0] as u64,
                 self.shared[1] + n * load.weight[1] as u64,
@@ -41,50 +43,36 @@ impl Sums {
     }
 }
 
-impl Loads {
-    // From a start, what all loads add in a window of length t.
-    pub(crate) fn sums(&self, start: Sums, t: u32) -> Sums
-        requires low { AtMost 10000000 start }
-        requires time { t ≤ 10000000 }
-        ensures total { Total every t start (held self.now) result }
-        ensures small { AtMost (2 ^ 54) result }
-    {
-        let mut sums = start;
-        for k in 0..self.n {
-            let load = &self.list[k];
-            let n = load.releases(t);
-            sums = sums.add(n, load);
-        }
-        sums
+// From a start, what all loads add in a window.
+pub(crate) fn sums(loads: &Loads, start: Sums, window: Window) -> Sums
+    requires { AtMost 10000000 start }
+    ensures total { Total every window.length start loads.now.items result }
+    ensures small { AtMost (2 ^ 54) result }
+{
+    let mut sums = start;
+    for load in loads.as_slice() {
+        sums = sums.add(load.releases(window), load);
     }
+    sums
+}
 
-    // What the loads of each core add in a window of length t.
-    pub(crate) fn sums_by_core(&self, t: u32) -> [Sums; 8]
-        requires { t ≤ 10000000 }
-        ensures { (y : ℕ) → y < 8 → Total (of_core y) t no_sums (held self.now) (slice_index_or result y no_sums) }
-    {
-        let mut sums = [Sums::NONE; 8];
-        for k in 0..self.n {
-            let load = &self.list[k];
-            let n = load.releases(t);
-            let y = load.core as usize;
-            let before = sums[y];
-            sums[y] = before.add(n, load);
-        }
-        sums
+// What the loads of each core add in a window.
+pub(crate) fn sums_by_core(loads: &Loads, window: Window) -> [Sums; 8]
+    ensures { (y : ℕ) → y < 8 → Total (of_core y) window.length no_sums loads.now.items (slice_index_or result y no_sums) }
+{
+    let mut sums = [Sums::NONE; 8];
+    for load in loads.as_slice() {
+        let y = load.core as usize;
+        sums[y] = sums[y].add(load.releases(window), load);
     }
+    sums
 }
 
 // The lesser of each two.
 pub(crate) fn lesser(theirs: &[u64; 4], own: &[u64; 4]) -> [u64; 4]
     ensures { (k : ℕ) → k < 4 → slice_index result k ≡ min (slice_index theirs.now k) (slice_index own.now k) }
 {
-    [
-        theirs[0].min(own[0]),
-        theirs[1].min(own[1]),
-        theirs[2].min(own[2]),
-        theirs[3].min(own[3]),
-    ]
+    array::from_fn(|k| theirs[k].min(own[k]))
 }
 
 // The sum over the resources of the board.
@@ -94,9 +82,5 @@ pub(crate) fn total(xs: &[u64; 4], resources: usize) -> u64
     ensures value { result ≡ sum_to resources (λ k. slice_index xs.now k) }
     ensures small { result ≤ resources * 2 ^ 54 }
 {
-    let mut sum: u64 = 0;
-    for r in 0..resources {
-        sum += xs[r];
-    }
-    sum
+    xs[..resources].iter().copied().sum()
 }

@@ -1,5 +1,5 @@
 // Preparing a table, and asking it.
-ghost use Rattle.std.specs.Prelude.{◌≡◌, ℕ, ◌≤◌, false, MatchOption, slice_index};
+ghost use Rattle.std.specs.Prelude.{◌≡◌, false, MatchOption};
 ghost use Rattle.bounds.specs.Bounds.{ahead_bound, composable_bound};
 ghost use Rattle.bounds.specs.Lengths.{length_of};
 ghost use Rattle.bounds.specs.Questions.{Asks, Deadlines, Found, deadline_in};
@@ -8,34 +8,31 @@ ghost use Rattle.table.specs.Sets.{members};
 ghost use Rattle.table.specs.Tasks.{listed, slot};
 
 use crate::gathering::{Higher, Rivals, gather};
+use crate::lengths::Lengths;
 use crate::prepared::{CheckedTable, RivalTable};
 use crate::question::{LesserRule, Own, SensitivityRule};
 use least::{Rule, climb};
+use std::array;
 use table::board::Board;
 use table::row::Row;
 use table::set::TaskSet;
 use table::task::Task;
-use table::tasks::{NUMBERS, Tasks};
+use table::tasks::Tasks;
 
 // The deadline of a number's task, or 0.
 fn deadline_at(tasks: &Tasks, number: usize) -> u32
     ensures { result ≡ deadline_in (slot tasks.now number) }
 {
-    match tasks.at(number) {
-        Some(task) => task.figures.deadline,
-        None => 0,
-    }
+    tasks.at(number).map_or(0, |task| task.figures.deadline)
 }
 
 // The deadlines of the tasks, by number.
-fn deadlines(tasks: &Tasks) -> [u32; 64]
-    ensures { Deadlines (listed tasks.now) result }
+fn deadlines(tasks: &Tasks) -> Lengths
+    ensures { Deadlines (listed tasks.now) result.of }
 {
-    let mut all = [0; 64];
-    for j in 0..NUMBERS {
-        all[j] = deadline_at(tasks, j);
+    Lengths {
+        of: array::from_fn(|number| deadline_at(tasks, number)),
     }
-    all
 }
 
 impl CheckedTable {
@@ -53,57 +50,47 @@ impl CheckedTable {
     pub(crate) fn task(&self, number: usize) -> Option<Task>
         ensures { Found self.now.board (listed self.now.tasks) number result }
     {
-        if let Some(task) = self.tasks.at(number) {
-            if task.core < self.board.cores {
-                return Some(task);
-            }
-        }
-        None
+        self.tasks
+            .at(number)
+            .filter(|task| task.core < self.board.cores)
     }
 
     // The question of a number and a set, if the number has a task on a core of the board.
     fn own<'a>(&'a self, number: usize, above: &'a TaskSet) -> Option<Own>
         ensures { MatchOption result (on_board self.now.board (listed self.now.tasks) number ≡ false) (Asks self.now.board (listed self.now.tasks) number (members above.now)) }
     {
-        match self.task(number) {
-            Some(task) => {
-                let higher = gather(&Higher {
-                    tasks: &self.tasks,
-                    number,
-                    core: task.core,
-                    above,
-                });
-                Some(Own { task, higher })
-            }
-            None => None,
-        }
+        let task = self.task(number)?;
+        let higher = gather(&Higher {
+            tasks: &self.tasks,
+            number,
+            core: task.core,
+            above,
+        });
+        Some(Own { task, higher })
     }
 
     // The composable test's bound.
     pub(crate) fn ask<'a>(&'a self, number: usize, above: &'a TaskSet) -> Option<u32>
         ensures { result ≡ composable_bound self.now.board (listed self.now.tasks) number (members above.now) }
     {
-        match self.own(number, above) {
-            Some(own) => {
-                let limit = own.task.figures.deadline;
-                let board = self.board;
-                climb(&SensitivityRule { board, own }, limit)
-            }
-            None => None,
-        }
+        let own = self.own(number, above)?;
+        let rule = SensitivityRule {
+            board: &self.board,
+            own: &own,
+        };
+        climb(&rule, own.task.figures.deadline)
     }
 
     // With the deadlines as the lengths from which the releases of rivals are counted.
     pub(crate) fn with_deadlines(self) -> RivalTable
         ensures table { result.table ≡ self }
-        ensures ahead { Deadlines (listed self.tasks) result.ahead }
+        ensures ahead { Deadlines (listed self.tasks) result.ahead.of }
     {
         let ahead = deadlines(&self.tasks);
         self.with_lengths(ahead)
     }
 
-    pub(crate) fn with_lengths(self, ahead: [u32; 64]) -> RivalTable
-        requires { (j : ℕ) → slice_index ahead j ≤ 10000000 }
+    pub(crate) fn with_lengths(self, ahead: Lengths) -> RivalTable
         ensures table { result.table ≡ self }
         ensures ahead { result.ahead ≡ ahead }
     {
@@ -122,16 +109,14 @@ impl CheckedTable {
 impl RivalTable {
     // The deadline test's bound, with these lengths in the place of the deadlines.
     pub(crate) fn ask<'a>(&'a self, number: usize, above: &'a TaskSet) -> Option<u32>
-        ensures { result ≡ ahead_bound (length_of self.now.ahead) self.now.table.board (listed self.now.table.tasks) number (members above.now) }
+        ensures { result ≡ ahead_bound (length_of self.now.ahead.of) self.now.table.board (listed self.now.table.tasks) number (members above.now) }
     {
-        match self.table.own(number, above) {
-            Some(own) => {
-                let limit = own.task.figures.deadline;
-                let board = self.table.board;
-                let rivals = &self.rivals;
-                climb(&LesserRule { board, own, rivals }, limit)
-            }
-            None => None,
-        }
+        let own = self.table.own(number, above)?;
+        let rule = LesserRule {
+            board: &self.table.board,
+            own: &own,
+            rivals: &self.rivals,
+        };
+        climb(&rule, own.task.figures.deadline)
     }
 }

@@ -1,13 +1,14 @@
 // The response test's list, written into one that the caller lends.
-ghost use Rattle.bounds.specs.Settling.{SettlesInto, after_settle, capacity, refusal_of, settle_answer};
+ghost use Rattle.bounds.specs.Settling.{SettlesInto, after_settle, refusal_of, settle_answer};
+ghost use Rattle.bounds.specs.declared.response.Unsettled.TheVariants.{NoBound};
 ghost use Rattle.std.specs.Prelude.{◌≡◌, length};
 
-use crate::response::Unsettled;
 use crate::response::rounds::respond;
+use crate::response::{Unbounded, Unsettled};
 use table::board::Board;
 use table::refusal::Refusal;
 use table::row::Row;
-use table::tasks::NUMBERS;
+use table::tasks::capacity_of;
 
 impl Unsettled {
     // The refusal that it is.
@@ -21,10 +22,12 @@ impl Unsettled {
     }
 }
 
-fn capacity_of(rows: &[Row]) -> usize
-    ensures { result ≡ capacity rows.now }
-{
-    rows.len().min(NUMBERS)
+impl From<Unbounded> for Unsettled {
+    ghost from_gives = { λ unbounded unsettled. unsettled ≡ NoBound unbounded };
+
+    fn from(unbounded: Unbounded) -> Unsettled {
+        Unsettled::NoBound(unbounded)
+    }
 }
 
 // Writes a bound for each row, 0 for an empty one, and tells the round; on refusal it writes
@@ -38,11 +41,7 @@ pub fn settle(board: &Board, rows: &[Row], times: &mut [u32]) -> Result<u32, Uns
     if times.len() < room {
         return Err(Unsettled::TooShort);
     }
-    match respond(board, rows) {
-        Ok(settled) => {
-            times[0..room].copy_from_slice(&settled.bounds[0..room]);
-            Ok(settled.round)
-        }
-        Err(unbounded) => Err(Unsettled::NoBound(unbounded)),
-    }
+    let settled = respond(board, rows)?;
+    times[..room].copy_from_slice(&settled.bounds[..room]);
+    Ok(settled.round)
 }

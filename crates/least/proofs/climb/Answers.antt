@@ -28,12 +28,6 @@ returns-then-next-t-2 g c =
     ] in
     record { answer = λ up. sym (solution_none rule _ (none up)); least = none }
 
-pub loop-t-preserved : goal.loop-t-preserved
-loop-t-preserved g c = (
-  omega (arith, c.loop-t.invariant.0),
-  λ up s low e. omega (arith, up.rises c.loop-t.t s (c.loop-t.invariant.1 up s low e), e, c.at-next.ensures),
-)
-
 pub returns : goal.returns
 returns g c =
     let rule : ℕ → ℕ = g.R.Rule.value c.args.rule.now in

@@ -1,28 +1,23 @@
-use Rattle.std.proofs.Common.{◌≡◌, ◌+◌, ◌≤◌, sym, subst, arith}
+use Rattle.std.proofs.Common.{◌+◌, ◌≤◌, length, sym, subst, arith}
 use Rattle.bounds.proofs.Gathered.{gathers_no, gathers_none, gathers_yes}
 use Rattle.bounds.proofs.gathering.gather.Goals as goal
 use Rattle.bounds.proofs.gathering.gather.Goals.{in-Some, in_default}
 use Rattle.bounds.specs.Gathering.{Gathers}
 
-pub loop-j-init : goal.loop-j-init
-loop-j-init g c = (omega (arith, c.new-loads.ensures), gathers_none _ _ c.new-loads.result c.new-loads.ensures)
+pub loop-number-init : goal.loop-number-init
+loop-number-init g c = subst (λ xs. (length xs ≤ 0) × Gathers (g.P.Pick.picks c.args.picker.now) (g.P.Pick.forms c.args.picker.now) 0 xs) (sym c.new-loads.ensures) (omega arith, gathers_none _ _)
 
-pub loop-j-preserved : goal.loop-j-preserved
-loop-j-preserved g c =
+pub loop-number-preserved : goal.loop-number-preserved
+loop-number-preserved g c =
     let picks = g.P.Pick.picks c.args.picker.now in
     let forms = g.P.Pick.forms c.args.picker.now in
-    let j = c.loop-j.j in
+    let j = c.loop-number.number in
     elim c.match-pick.branch [
       | in-Some w ↦
           let picked = w.in-Some.ensures in
-          subst (λ x. (x.n ≤ j + 1) × Gathers picks forms (j + 1) x) (sym w.loads-is)
-          (omega (arith, w.push.ensures.count, c.loop-j.invariant.0), gathers_yes picks forms j c.loop-j.loads w.push.new.self w.in-Some.load picked.0 picked.1 w.push.ensures c.loop-j.invariant.1)
+          subst (λ x. (length x.items ≤ j + 1) × Gathers picks forms (j + 1) x.items) (sym w.loads-is)
+          (omega (arith, w.push.ensures.len, c.loop-number.invariant.0), subst (Gathers picks forms (j + 1)) (sym w.push.ensures.items) (gathers_yes picks forms j c.loop-number.loads.items w.in-Some.load picked.0 picked.1 c.loop-number.invariant.1))
       | in_default w ↦
-          subst (λ x. (x.n ≤ j + 1) × Gathers picks forms (j + 1) x) (sym w.loads-is)
-          (omega (arith, c.loop-j.invariant.0), gathers_no picks forms j c.loop-j.loads w.in_default.ensures c.loop-j.invariant.1)
+          subst (λ x. (length x.items ≤ j + 1) × Gathers picks forms (j + 1) x.items) (sym w.loads-is)
+          (omega (arith, c.loop-number.invariant.0), gathers_no picks forms j c.loop-number.loads.items w.in_default.ensures c.loop-number.invariant.1)
     ]
-
-pub returns : goal.returns
-returns g c =
-    let last : c.loop-j.j ≡ 64 = omega arith in
-    subst (λ n. Gathers (g.P.Pick.picks c.args.picker.now) (g.P.Pick.forms c.args.picker.now) n c.loop-j.loads) last c.loop-j.invariant.1

@@ -3,7 +3,7 @@ use Rattle.bounds.proofs.composable.ComposableTest.prepare.Goals as goal
 use Rattle.bounds.specs.Bounds.{composable_bound}
 use Rattle.table.specs.Tasks.{listed}
 use Rattle.std.proofs.Common.{sym, ap, ◌∙◌}
-use mathlib.Core.Path.{fun_ext}
+use Rattle.std.proofs.Math.Path.{fun_ext}
 
 pub returns : goal.returns
 returns c =

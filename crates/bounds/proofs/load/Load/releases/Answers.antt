@@ -5,4 +5,4 @@ use Rattle.std.proofs.Common.{refl}
 
 pub returns : goal.returns
 unfolding releases
-returns c = record { value = refl; few = seen_le c.args.t c.args.self.now c.requires }
+returns c = record { value = refl; few = seen_le c.args.window c.args.self.now }

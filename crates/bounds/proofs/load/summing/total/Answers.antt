@@ -1,15 +1,27 @@
-use Rattle.bounds.specs.Adding.{sum_more, sum_none}
+use Rattle.std.proofs.Common.{rules, ◌≡◌, ℕ, ◌+◌, ◌*◌, ◌^◌, ◌<◌, ◌≤◌, List, get_or, take, ◌∙◌, arith}
+use Rattle.bounds.proofs.Totals.{folded}
 use Rattle.bounds.proofs.load.summing.total.Goals as goal
-use Rattle.std.proofs.Common.{get_or, sym, arith}
+use Rattle.bounds.specs.Adding.{sum_below}
+use Rattle.bounds.specs.Sums.{sum_to}
+use Rattle.std.specs.List.{fold}
 
-pub loop-r-init : goal.loop-r-init
-loop-r-init c = (sym (sum_none _), omega arith)
+-- the sum of n small numbers is small
+total_small : (n : ℕ) (xs : List ℕ) → n ≤ 4 → ((r : ℕ) → r < 4 → get_or xs r 0 ≤ 2 ^ 54) → sum_to n (λ k. get_or xs k 0) ≤ n * 2 ^ 54
+total_small n xs few h = sum_below n (2 ^ 54) (λ k. get_or xs k 0) (λ k l. h k (omega arith))
 
-pub overflow_add-sum : goal.overflow_add-sum
-overflow_add-sum c = omega (arith, c.loop-r.invariant.1, c.requires.small c.loop-r.r (omega arith))
+pub sum-requires : goal.sum-requires
+sum-requires c =
+    let n = c.args.resources in
+    let xs = c.args.xs.now in
+    let small = total_small n xs c.requires.few c.requires.small in
+    let fits : fold (λ a x. a + x) 0 (take n xs) < 2 ^ 64 = omega (arith, folded n xs (omega arith), small) in
+    search rules
 
-pub loop-r-preserved : goal.loop-r-preserved
-loop-r-preserved c = (
-  omega (arith, c.loop-r.invariant.0, sum_more c.loop-r.r (λ k. get_or c.args.xs.now k 0)),
-  omega (arith, c.loop-r.invariant.1, c.requires.small c.loop-r.r (omega arith)),
-)
+pub returns : goal.returns
+returns c =
+    let n = c.args.resources in
+    let xs = c.args.xs.now in
+    let small = total_small n xs c.requires.few c.requires.small in
+    let sum : c.sum.result ≡ fold (λ a x. a + x) 0 (take n xs) = search rules in
+    let value : c.sum.result ≡ sum_to n (λ k. get_or xs k 0) = sum ∙ folded n xs (omega arith) in
+    record { value = value; small = omega (arith, value, small) }

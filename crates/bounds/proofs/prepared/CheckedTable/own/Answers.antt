@@ -10,14 +10,14 @@ use Rattle.std.proofs.Common.{not, ◌&&◌, eqb, sym, ap, subst, arith}
 
 pub invariant_of-gather : goal.invariant_of-gather
 invariant_of-gather c =
-    let found = c.in-Some.ensures in
+    let found = c.in_ok-task.ensures in
     let board = c.args.self.now.board in
     record { core_low = omega (arith, on_board_core board (listed c.args.self.now.tasks) c.args.number found.0, ap (λ (q : Row). q.core) found.1, board.few_cores) }
 
-pub returns-in-Some : goal.returns-in-Some
+pub returns : goal.returns
 unfolding above
-returns-in-Some c =
-    let found = c.in-Some.ensures in
+returns c =
+    let found = c.in_ok-task.ensures in
     let rows = listed c.args.self.now.tasks in
     let i = c.args.number in
     let set = members c.args.above.now in
@@ -26,5 +26,5 @@ returns-in-Some c =
       found = found.0;
       core_is = core_is;
       figures_is = sym (ap (λ (q : Row). q.figures) found.1);
-      gathers = subst (λ x. Gathers (λ j. (set j && not (eqb j i)) && on_core rows x j) (λ j. higher_form (row_at rows j)) 64 c.gather-higher.result) core_is c.gather-higher.ensures;
+      gathers = subst (λ x. Gathers (λ j. (set j && not (eqb j i)) && on_core rows x j) (λ j. higher_form (row_at rows j)) 64 c.gather-higher.result.items) core_is c.gather-higher.ensures;
     }

@@ -9,19 +9,19 @@ use Rattle.bounds.specs.Rules.{lesser_rule}
 use Rattle.std.proofs.lemmas.Bool.{cond-false}
 use Rattle.table.specs.Sets.{members}
 use Rattle.table.specs.Tasks.{listed}
-use Rattle.std.proofs.Common.{sym}
+use Rattle.std.proofs.Common.{sym, ◌∙◌}
 
-pub returns-in-Some : goal.returns-in-Some
+pub returns : goal.returns
 unfolding ahead_bound
-returns-in-Some c =
+returns c =
     let self = c.args.self.now in
     let board = self.table.board in
     let rows = listed self.table.tasks in
     let set = members c.args.above.now in
-    let ahead = length_of self.ahead in
-    let asks = c.in-Some.ensures in
-    answered (lesser_rule ahead) board rows c.args.number set c.in-Some.own (lesser_side board c.in-Some.own self.rivals) c.climb.result asks (lesser_meets board rows c.args.number set ahead c.in-Some.own self.rivals asks self.gathered) (lesser_rising board rows c.args.number set ahead asks.found) c.climb.ensures.answer
+    let ahead = length_of self.ahead.of in
+    let asks = c.in_ok-own.ensures in
+    answered (lesser_rule ahead) board rows c.args.number set c.in_ok-own.own (lesser_side board c.in_ok-own.own self.rivals.items) c.climb.result asks (lesser_meets board rows c.args.number set ahead c.in_ok-own.own self.rivals.items asks self.gathered) (lesser_rising board rows c.args.number set ahead asks.found) c.climb.ensures.answer
 
-pub returns-in-None : goal.returns-in-None
+pub returns-in_err-own : goal.returns-in_err-own
 unfolding ahead_bound
-returns-in-None c = sym (cond-false _ _ _ c.in-None.ensures)
+returns-in_err-own c = c.from_residual.ensures ∙ sym (cond-false _ _ _ c.in_err-own.ensures)

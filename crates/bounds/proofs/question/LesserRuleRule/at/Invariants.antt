@@ -4,4 +4,4 @@ use Rattle.bounds.proofs.question.LesserRuleRule.at.Given as goal
 
 -- the cores below y are counted
 abbrev pub invariant-loop-y : goal.invariant-loop-y
-invariant-loop-y l = (l.sum ≡ so_far l.self.board l.self.own l.self.rivals.now l.t l.y) × (l.sum ≤ 2 ^ 54 + l.y * 2 ^ 56)
+invariant-loop-y l = (l.sum ≡ so_far l.self.board.now l.self.own.now l.self.rivals.now.items l.fn.window.length l.y) × (l.sum ≤ 2 ^ 54 + l.y * 2 ^ 56)

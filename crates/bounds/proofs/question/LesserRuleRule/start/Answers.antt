@@ -7,4 +7,4 @@ use Rattle.bounds.specs.Rules.{contention}
 pub returns : goal.returns
 returns c =
     let q = c.args.self.now in
-    no_solution_below q.own (λ t. contention q.board q.own.task.core (λ r y. min (inflicted q.rivals.now r y t) (own_shared q.own r t))) c.start.result c.start.ensures
+    no_solution_below q.own.now (λ t. contention q.board.now q.own.now.task.core (λ r y. min (inflicted q.rivals.now.items r y t) (own_shared q.own.now r t))) c.start.result c.start.ensures

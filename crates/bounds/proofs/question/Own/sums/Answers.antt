@@ -1,31 +1,26 @@
-use Rattle.std.proofs.Common.{◌≡◌, ℕ, ◌+◌, ◌<◌, ◌≤◌, List, [], ◌∷◌, get_or, sum_by, sym, refl, ap, ◌∙◌, subst}
+use Rattle.std.proofs.Common.{rules, get_or, ◌≡◌, ℕ, ◌+◌, ◌<◌, ◌≤◌, sum_by, sym, ap, ◌∙◌, subst}
 use Rattle.bounds.proofs.question.Own.sums.Goals as goal
-use Rattle.bounds.specs.Loads.{held, weight_at}
-use Rattle.table.proofs.Limited.{below_four, each_small, limited}
-
--- four numbers, read one by one
-four : (xs : List ℕ) (r : ℕ) → r < 4 → get_or {A = ℕ} (get_or xs 0 0 ∷ get_or xs 1 0 ∷ get_or xs 2 0 ∷ get_or xs 3 0 ∷ []) r 0 ≡ get_or xs r 0
-four xs = below_four (λ r. get_or {A = ℕ} (get_or xs 0 0 ∷ get_or xs 1 0 ∷ get_or xs 2 0 ∷ get_or xs 3 0 ∷ []) r 0 ≡ get_or xs r 0) refl refl refl refl
+use Rattle.bounds.specs.Loads.{weight_at}
+use Rattle.table.proofs.Limited.{each_small, limited}
 
 pub sums-requires : goal.sums-requires
 sums-requires c =
     let figures = c.args.self.now.task.figures in
     let k = limited figures c.args.self.now.task.limits in
+    let same : (r : ℕ) → r < 4 → get_or c.map.result r 0 ≡ get_or figures.sensitivity r 0 = λ r l. (let h = c.map.ensures.items.at r 0 0 l in search rules) in
     record {
-      low = record {
-        cost = k.cost_high;
-        shared = λ r l. subst (λ n. n ≤ 10000000) (sym (four figures.sensitivity r l)) (each_small figures.sensitivity k.sensitivity_small r l);
-      };
-      time = c.requires;
+      cost = k.cost_high;
+      shared = λ r l. subst (λ n. n ≤ 10000000) (sym (same r l)) (each_small figures.sensitivity k.sensitivity_small r l);
     }
 
 pub returns : goal.returns
 returns c =
     let own = c.args.self.now in
+    let same : (r : ℕ) → r < 4 → get_or c.map.result r 0 ≡ get_or own.task.figures.sensitivity r 0 = λ r l. (let h = c.map.ensures.items.at r 0 0 l in search rules) in
     record {
       value = record {
         cost = c.sums.ensures.total.cost;
-        shared = λ r l. c.sums.ensures.total.shared r l ∙ ap (λ n. n + sum_by (weight_at r c.args.t) (held own.higher)) (four own.task.figures.sensitivity r l);
+        shared = λ r l. c.sums.ensures.total.shared r l ∙ ap (λ n. n + sum_by (weight_at r c.args.window.length) own.higher.items) (same r l);
       };
       small = c.sums.ensures.small;
     }

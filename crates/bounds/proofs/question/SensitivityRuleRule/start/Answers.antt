@@ -7,4 +7,4 @@ use Rattle.bounds.specs.Sums.{sum_to}
 pub returns : goal.returns
 returns c =
     let q = c.args.self.now in
-    no_solution_below q.own (λ t. (q.board.cores - 1) * sum_to q.board.resources (λ r. own_shared q.own r t)) c.start.result c.start.ensures
+    no_solution_below q.own.now (λ t. (q.board.now.cores - 1) * sum_to q.board.now.resources (λ r. own_shared q.own.now r t)) c.start.result c.start.ensures

@@ -16,7 +16,7 @@ returns-in-Some c =
     let board = self.table.board in
     let rows = self.rows.now in
     let i = c.args.number in
-    let ahead = length_of c.args.rivals.now.ahead in
+    let ahead = length_of c.args.rivals.now.ahead.of in
     let above = members c.higher_ranked.result in
     c.ask.ensures
     ∙ ap (λ t. ahead_bound ahead t.board (listed t.tasks) i above) c.requires

@@ -1,16 +1,9 @@
-use Rattle.bounds.proofs.Checked.{checked_cost, checked_on_board}
+use Rattle.std.proofs.Common.{rules, ◌≡◌, ◌∙◌}
+use Rattle.bounds.proofs.Checked.{cost_in, found_cost}
 use Rattle.bounds.proofs.response.Ranked.cost_at.Goals as goal
-use Rattle.std.proofs.lemmas.Bool.{cond-false, cond-true}
-use Rattle.std.proofs.Common.{sym, ◌∙◌}
 
-pub returns-in-Some : goal.returns-in-Some
-returns-in-Some c =
+pub returns : goal.returns
+returns c =
     let self = c.args.self.now in
-    let found = c.in-Some.ensures in
-    checked_cost self.table.board self.rows.now self.table.tasks self.checked c.args.number c.in-Some.task found.0 found.1
-    ∙ sym (cond-true _ _ _ (sym (checked_on_board self.table.board self.rows.now self.table.tasks self.checked c.args.number) ∙ found.0))
-
-pub returns-in-None : goal.returns-in-None
-returns-in-None c =
-    let self = c.args.self.now in
-    sym (cond-false _ _ _ (sym (checked_on_board self.table.board self.rows.now self.table.tasks self.checked c.args.number) ∙ c.in-None.ensures))
+    let read : c.map_or.result ≡ cost_in self.table.board self.rows.now self.table.tasks self.checked c.task.result = search rules in
+    read ∙ found_cost self.table.board self.rows.now self.table.tasks self.checked c.args.number c.task.result c.task.ensures

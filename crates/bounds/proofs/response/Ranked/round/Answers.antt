@@ -1,30 +1,36 @@
-use Rattle.std.proofs.Common.{ℕ, replicate, Option, sym, refl, ap, ◌∙◌, arith}
+use Rattle.std.proofs.Common.{rules, ◌≡◌, ℕ, replicate, Some, None, Err, Option, refl, ap, ◌∙◌, arith}
 use Rattle.bounds.proofs.Listed.{filled_all, filled_more, filled_none, filled_stop}
 use Rattle.bounds.proofs.response.Ranked.round.Goals as goal
 use Rattle.bounds.specs.Rounds.{bound_after, round_after}
+use Rattle.bounds.specs.declared.lengths.Lengths.{Lengths}
 
-pub loop-i-init : goal.loop-i-init
-loop-i-init c = filled_none _ (replicate 64 0) refl
+pub loop-number-init : goal.loop-number-init
+loop-number-init c = filled_none _ (replicate 64 0) refl
 
-pub returns-in-None : goal.returns-in-None
+pub returns-in_err-bound : goal.returns-in_err-bound
 unfolding round_after
-returns-in-None c =
+returns-in_err-bound c =
     let self = c.args.self.now in
-    let f : ℕ → Option ℕ = bound_after self.table.board self.rows.now c.args.before.now in
-    filled_stop f c.loop-i.i c.loop-i.bounds c.loop-i-test.true
-    (sym c.in-None.is ∙ c.bound_at.ensures ∙ ap (λ v. bound_after self.table.board self.rows.now v c.loop-i.i) c.with_lengths-rivals.ensures.ahead)
-    c.loop-i.invariant
+    let f : ℕ → Option ℕ = bound_after self.table.board self.rows.now c.args.before.of in
+    let i = c.loop-number.number in
+    let none : None ≡ c.bound_at.result = search rules in
+    let is : c.from_residual.result ≡ Err i = search rules in
+    is ∙ filled_stop f i c.loop-number.bound-items c.loop-number-test.true
+    (none ∙ c.bound_at.ensures ∙ ap (λ (v : Lengths). bound_after self.table.board self.rows.now v.of i) c.with_lengths-rivals.ensures.ahead)
+    c.loop-number.invariant
 
-pub loop-i-preserved : goal.loop-i-preserved
-loop-i-preserved c =
+pub loop-number-preserved : goal.loop-number-preserved
+loop-number-preserved c =
     let self = c.args.self.now in
-    let f : ℕ → Option ℕ = bound_after self.table.board self.rows.now c.args.before.now in
-    filled_more f c.loop-i.i c.in-Some.bound c.loop-i.bounds c.loop-i-test.true
-    (sym c.in-Some.is ∙ c.bound_at.ensures ∙ ap (λ v. bound_after self.table.board self.rows.now v c.loop-i.i) c.with_lengths-rivals.ensures.ahead)
-    c.loop-i.invariant
+    let f : ℕ → Option ℕ = bound_after self.table.board self.rows.now c.args.before.of in
+    let i = c.loop-number.number in
+    let some : Some c.in_ok-bound.field-0 ≡ c.bound_at.result = search rules in
+    filled_more f i c.in_ok-bound.field-0 c.loop-number.bound-items c.loop-number-test.true
+    (some ∙ c.bound_at.ensures ∙ ap (λ (v : Lengths). bound_after self.table.board self.rows.now v.of i) c.with_lengths-rivals.ensures.ahead)
+    c.loop-number.invariant
 
 pub returns : goal.returns
 unfolding round_after
 returns c =
     let self = c.args.self.now in
-    filled_all (bound_after self.table.board self.rows.now c.args.before.now) c.loop-i.i c.loop-i.bounds (omega (arith, c.loop-i-test.false, c.loop-i.auto.i-end)) c.loop-i.invariant
+    filled_all (bound_after self.table.board self.rows.now c.args.before.of) c.loop-number.number c.loop-number.bound-items (omega (arith, c.loop-number-test.false, c.loop-number.auto.number-end)) c.loop-number.invariant
