@@ -1,6 +1,9 @@
 // Examples that run: one for each rule of the table, of the tests and of the file.
 #![tactic(auto)]
 
+// Table files that examples damage and mend.
+pub mod files;
+
 #[cfg(test)]
 mod bounded;
 #[cfg(test)]

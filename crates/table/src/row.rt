@@ -9,7 +9,7 @@ use crate::board::Board;
 pub const MOST: u32 = 10_000_000;
 
 // What an amendment replaces. All times are whole microseconds.
-#[derive(Clone, Copy)]
+#[derive(Clone, Copy, PartialEq, Eq, Debug)]
 pub struct Figures {
     // C: execution time, running alone.
     pub cost: u32,
@@ -24,7 +24,7 @@ pub struct Figures {
 }
 
 // A row's number is its place in the list. An unused row is empty.
-#[derive(Clone, Copy)]
+#[derive(Clone, Copy, PartialEq, Eq, Debug)]
 pub struct Row {
     pub used: bool,
     pub core: u8,

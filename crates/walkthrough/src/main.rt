@@ -4,29 +4,26 @@
 #![tactic(auto)]
 
 mod calls;
-mod filed;
 mod protocol;
-mod tables;
 
 use bounds::deadline::Deadline;
-use calls::show_calls;
-use filed::show_file;
+use calls::CallsTold;
 use promise::call::{Answer, Call};
 use promise::run::run;
 use protocol::show_report;
-use std::io;
 use std::io::Read;
+use std::{array, io};
 use table::board::Board;
 use table::refusal::Refusal;
 use table::row::Row;
 use tablefile::checking::check_length;
-use tables::{show_board, show_tasks};
+use telling::board::BoardTold;
+use telling::file::FileTold;
+use telling::tasks::TasksTold;
 
 // The board that the first block of a file states.
 fn board_of(bytes: &[u8]) -> Result<Board, Refusal> {
-    if let Some(refusal) = check_length(bytes.len()) {
-        return Err(refusal);
-    }
+    check_length(bytes.len()).map_or(Ok(()), Err)?;
     match bytes {
         [_, _, _, cores, resources, ..] => Board::new(*cores, *resources),
         _ => Err(Refusal::FileLength),
@@ -38,29 +35,33 @@ fn show_refusal(rt: &HostRuntime, refusal: Refusal) -> io::Result<()> {
     println!(rt; "The file is refused: {number}")
 }
 
+// Call `k` of the nine: the load of the file, and then an ordering of each core that can be.
+fn call_at(bytes: &[u8], k: usize) -> Call<'_> {
+    match k {
+        0 => Call::Load(bytes),
+        _ => Call::Order(k as u8 - 1),
+    }
+}
+
 // Loads the file, orders each core by rising number, and tells what came of it.
-fn walk(rt: &HostRuntime, board: Board, bytes: &[u8]) -> io::Result<()> {
+fn walk(rt: &HostRuntime, board: &Board, bytes: &[u8]) -> io::Result<()> {
     let mut rows = [Row::EMPTY; 64];
     let mut answers = [Answer::Unasked; 9];
-    let calls = [
-        Call::Load(bytes),
-        Call::Order(0),
-        Call::Order(1),
-        Call::Order(2),
-        Call::Order(3),
-        Call::Order(4),
-        Call::Order(5),
-        Call::Order(6),
-        Call::Order(7),
-    ];
-    let made = &calls[0..board.cores as usize + 1];
-    match run(board, &mut rows, &Deadline, made, &mut answers) {
+    let calls: [Call<'_>; 9] = array::from_fn(|k| call_at(bytes, k));
+    let made = &calls[..=usize::from(board.cores)];
+    match run(*board, &mut rows, &Deadline, made, &mut answers) {
         Ok(marks) => {
-            show_board(rt, &board)?;
-            show_calls(rt, &board, &answers, &marks)?;
-            show_tasks(rt, &board, &rows)?;
-            show_file(rt, &board, &rows)?;
-            show_report(rt, board, bytes)
+            let calls = CallsTold {
+                board,
+                answers: &answers,
+                marks: &marks,
+            };
+            let rows = &rows;
+            println!(rt; "{}\n", BoardTold(board))?;
+            println!(rt; "{calls}\n")?;
+            println!(rt; "{}\n", TasksTold { board, rows })?;
+            println!(rt; "{}\n", FileTold { board, rows })?;
+            show_report(rt, *board, bytes)
         }
         Err(refusal) => show_refusal(rt, refusal),
     }
@@ -71,7 +72,7 @@ fn main(rt: HostRuntime) -> io::Result<()> {
     rt.stdin().read_to_end(&mut file)?;
     let bytes = file.as_slice();
     match board_of(bytes) {
-        Ok(board) => walk(&rt, board, bytes),
+        Ok(board) => walk(&rt, &board, bytes),
         Err(refusal) => show_refusal(&rt, refusal),
     }
 }
