@@ -6,6 +6,7 @@ ghost use Rattle.tablefile.specs.Check.{check_of};
 ghost use Rattle.tablefile.specs.Writing.{buffer_after};
 
 use figures::{worked_board, worked_rows};
+use std::array;
 use tablefile::writing::write_file;
 
 pub fn worked_file() -> [u8; 512]
@@ -21,8 +22,8 @@ pub fn changed(file: [u8; 512], at: usize, byte: u8) -> [u8; 512]
     ensures answer { result ≡ slice_set file at byte }
 {
     let mut file = file;
-    if let Some(place) = file.get_mut(at) {
-        *place = byte;
+    if at < 512 {
+        file[at] = byte;
     }
     file
 }
@@ -43,18 +44,17 @@ pub fn mended(file: [u8; 512]) -> [u8; 512]
     ensures front { take 510 result ≡ take 510 file }
     ensures stands { check_stands result ≡ true }
 {
-    let mut file = file;
-    let check = sum_of(&file[..510]);
-    file[510..].copy_from_slice(&check.to_be_bytes());
-    file
+    let bytes = &file[..];
+    let [high, low] = sum_of(&bytes[..510]).to_be_bytes();
+    let mut mended = file;
+    mended[510] = high;
+    mended[511] = low;
+    mended
 }
 
 // Two blocks, one after the other.
 pub fn joined(first: [u8; 512], second: [u8; 512]) -> [u8; 1024]
     ensures answer { result ≡ first ++ second }
 {
-    let mut file = [0; 1024];
-    file[..512].copy_from_slice(&first);
-    file[512..].copy_from_slice(&second);
-    file
+    array::from_fn(|k| if k < 512 { first[k] } else { second[k - 512] })
 }

@@ -4,7 +4,6 @@ use promise::call::Answer;
 use sheet::marks::Mark;
 use sheet::refused::{Layer, NotOrdered, Stopped};
 use std::fmt;
-use table::board::Board;
 use telling::counted::Counted;
 
 fn name_of(layer: Layer) -> &'static str {
@@ -110,20 +109,23 @@ impl fmt::Display for MarksTold<'_> {
     }
 }
 
-// The answers of the load and of the orderings, and then the marks.
+// The answers of the load and of the orderings, and then the marks of the cores that were ordered.
 #[derive(Clone, Copy)]
 pub(crate) struct CallsTold<'a> {
-    pub(crate) board: &'a Board,
-    pub(crate) answers: &'a [Answer; 9],
-    pub(crate) marks: &'a [Mark; 8],
+    pub(crate) answers: &'a [Answer],
+    pub(crate) marks: &'a [Mark],
 }
 
 impl fmt::Display for CallsTold<'_> {
     fn fmt<W: fmt::Write>(&self, f: &mut fmt::Formatter<W>) -> fmt::Result {
-        let cores = usize::from(self.board.cores);
-        let load = LoadTold(self.answers[0]);
-        let orders = OrdersTold(&self.answers[1..=cores]);
-        let marks = MarksTold(&self.marks[..cores]);
-        write!(f, "{load}{orders}{marks}")
+        match self.answers {
+            [load, orders @ ..] => {
+                let load = LoadTold(*load);
+                let orders = OrdersTold(orders);
+                let marks = MarksTold(self.marks);
+                write!(f, "{load}{orders}{marks}")
+            }
+            [] => Ok(()),
+        }
     }
 }

@@ -35,26 +35,21 @@ fn show_refusal(rt: &HostRuntime, refusal: Refusal) -> io::Result<()> {
     println!(rt; "The file is refused: {number}")
 }
 
-// Call `k` of the nine: the load of the file, and then an ordering of each core that can be.
-fn call_at(bytes: &[u8], k: usize) -> Call<'_> {
-    match k {
-        0 => Call::Load(bytes),
-        _ => Call::Order(k as u8 - 1),
-    }
-}
-
 // Loads the file, orders each core by rising number, and tells what came of it.
 fn walk(rt: &HostRuntime, board: &Board, bytes: &[u8]) -> io::Result<()> {
     let mut rows = [Row::EMPTY; 64];
     let mut answers = [Answer::Unasked; 9];
-    let calls: [Call<'_>; 9] = array::from_fn(|k| call_at(bytes, k));
-    let made = &calls[..=usize::from(board.cores)];
+    let mut calls = [Call::Load(bytes); 9];
+    for (call, core) in calls.iter_mut().skip(1).zip(0..) {
+        *call = Call::Order(core);
+    }
+    let cores = usize::from(board.cores);
+    let made = &calls[..=cores];
     match run(*board, &mut rows, &Deadline, made, &mut answers) {
         Ok(marks) => {
             let calls = CallsTold {
-                board,
-                answers: &answers,
-                marks: &marks,
+                answers: &answers[..=cores],
+                marks: &marks[..cores],
             };
             let rows = &rows;
             println!(rt; "{}\n", BoardTold(board))?;

@@ -1,0 +1,10 @@
+use Rattle.std.proofs.Common.{rules, ◌≡◌, ◌++◌, true, replicate, slice_set, take, ℕ, ◌+◌, ◌-◌, ◌*◌, ◌<◌, ◌≤◌, length, ◌/◌, ◌%◌, Bool, false, nat_eq, nat_lt, List, [], ◌∷◌, slice_index_or, bit_and, bit_or, Fits, w8, w32, w64, Bor, MutBor}
+use Rattle.figures.specs.Tables.{two_cores, worked_rows}
+use Rattle.tablefile.specs.Refusing.{check_stands}
+use Rattle.tablefile.specs.Check.{check_of}
+use Rattle.tablefile.specs.Writing.{buffer_after}
+use Rattle.examples.proofs.files.joined.Goals as goal
+
+-- src/files.rt:55:1
+pub returns : goal.returns
+returns c = ?
