@@ -2,12 +2,11 @@
 #![tactic(auto)]
 
 // Table files that examples damage and mend.
-pub mod files;
-
 #[cfg(test)]
 mod bounded;
 #[cfg(test)]
 mod filed;
+pub mod files;
 #[cfg(test)]
 mod ordered;
 #[cfg(test)]
