@@ -4,7 +4,8 @@ use Rattle.bounds.specs.Demand.{above, execution, releases, total_sensitivity, t
 use Rattle.bounds.specs.Rounds.{bound_after, response, round_after, rounds, same, settled, start}
 use Rattle.bounds.specs.Rules.{contention}
 use Rattle.bounds.specs.Sums.{sum_to}
-use Rattle.callfigures.specs.Figures.{all_hold, figures}
+use Rattle.callfigures.specs.Figures.{figures, holds}
+use Rattle.figures.specs.Figures.{all_hold}
 use Rattle.least.specs.Least.{first_from, solution}
 use Rattle.ordering.specs.Search.{fill}
 use Rattle.table.specs.Firsts.{first_that}
@@ -14,6 +15,6 @@ use Rattle.table.specs.Rows.{is_task, on_board, on_core}
 use Rattle.table.specs.Sets.{count_below, without}
 use Rattle.std.proofs.Common.{◌≡◌, true, refl}
 
-pub figures_hold : all_hold figures ≡ true
+pub figures_hold : all_hold holds figures ≡ true
 unfolding ahead_bound start bound_after round_after same rounds response settled first_that fill without count_below composable_bound deadline_bound above execution releases total_sensitivity total_stress contention sum_to first_from solution in_limits suits higher_ranked is_task on_board on_core
 figures_hold = refl

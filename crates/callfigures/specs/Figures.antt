@@ -1,5 +1,5 @@
 -- Figures worked out by hand for calls on a sheet, one table: a line is a question and its answer.
-use Rattle.std.specs.Prelude.{ℕ, Bool, true, false, ◌&&◌, List, [], ◌∷◌}
+use Rattle.std.specs.Prelude.{ℕ, Bool, true, false, List, [], ◌∷◌}
 use Rattle.bounds.specs.Bounds.{composable_bound, deadline_bound}
 use Rattle.bounds.specs.Rounds.{same}
 use Rattle.callfigures.specs.Told.{all_told, by_bound}
@@ -33,10 +33,6 @@ pub data Line : Type 0 where
 abbrev pub holds : Line → Bool
 holds (calls meaning wide board rows cs figures) = all_told (answers_to meaning wide (fresh board rows) cs) figures
 holds (reading meaning wide board rows cs number figures) = same (by_bound (bound_answer meaning (after_all meaning wide (fresh board rows) cs) number)) figures
-
-abbrev pub all_hold : List Line → Bool
-all_hold [] = true
-all_hold (line ∷ lines) = holds line && all_hold lines
 
 abbrev pub figures : List Line
 figures =

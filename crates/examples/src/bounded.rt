@@ -32,23 +32,27 @@ const TWO_CORES: Board = Board {
     resources: 2,
 };
 
+// A task's bound under the present ranks.
+fn bound<T: Test>(test: &T, board: &Board, rows: &[Row], number: usize) -> Option<u32> {
+    test.bound(board, rows, number, &TaskSet::higher_ranked(rows, number))
+}
+
 fn wide(board: &Board, rows: &[Row], number: usize) -> Option<u32> {
-    Deadline.bound(board, rows, number, &TaskSet::higher_ranked(rows, number))
+    bound(&Deadline, board, rows, number)
 }
 
 fn own(board: &Board, rows: &[Row], number: usize) -> Option<u32> {
-    Composable.bound(board, rows, number, &TaskSet::higher_ranked(rows, number))
+    bound(&Composable, board, rows, number)
 }
 
 #[test]
 fn worked(rt: HostRuntime) {
     let board = worked_board();
     let rows = worked_rows();
-    assert_eq!(rt; wide(&board, &rows, 0), None);
-    assert_eq!(rt; wide(&board, &rows, 1), Some(3));
-    assert_eq!(rt; wide(&board, &rows, 2), Some(7));
-    assert_eq!(rt; wide(&board, &rows, 3), Some(5));
-    assert_eq!(rt; wide(&board, &rows, 4), None);
+    let bounds = [None, Some(3), Some(7), Some(5), None];
+    for (number, bound) in bounds.into_iter().enumerate() {
+        assert_eq!(rt; wide(&board, &rows, number), bound);
+    }
     assert_eq!(rt; own(&board, &rows, 2), Some(8));
 }
 

@@ -1,7 +1,8 @@
 // Files: written, read back, damaged and refused.
+use crate::files::{changed, joined, mended, worked_file};
 use figures::{worked_board, worked_rows};
-use std::test::Fail;
 use table::board::Board;
+use table::refusal::Refusal;
 use table::row::{Figures, Row};
 use tablefile::checking::{check_block, check_length};
 use tablefile::decoding::decode;
@@ -26,81 +27,41 @@ const ROW: Row = Row {
     },
 };
 
-pub(crate) fn worked_file() -> [u8; 512] {
-    let mut file = [0; 512];
-    let _ = write_file(&worked_board(), &worked_rows(), &mut file);
-    file
-}
-
-pub(crate) fn changed(file: [u8; 512], at: usize, byte: u8) -> [u8; 512] {
-    let mut file = file;
-    if at < 512 {
-        file[at] = byte;
+// All checks that a file for a board has to pass.
+fn check_file(board: &Board, bytes: &[u8]) -> Result<(), Refusal> {
+    check_length(bytes.len())?;
+    let reader = Reader::new(bytes);
+    for number in (0..64).take(reader.blocks()) {
+        check_block(board, number, reader.block(number))?;
     }
-    file
-}
-
-// With the check that its bytes now have.
-pub(crate) fn mended(file: [u8; 512]) -> [u8; 512] {
-    let mut sum: u16 = 0;
-    for k in 0..510 {
-        sum = sum.wrapping_add(u16::from(file[k]));
-    }
-    let [high, low] = sum.to_be_bytes();
-    changed(changed(file, 510, high), 511, low)
-}
-
-fn joined(first: [u8; 512], second: [u8; 512]) -> [u8; 1024] {
-    let mut file = [0; 1024];
-    for k in 0..512 {
-        file[k] = first[k];
-        file[512 + k] = second[k];
-    }
-    file
+    Ok(())
 }
 
 // The number of the first refusal of a file for the worked board, or 0.
 pub(crate) fn refused(bytes: &[u8]) -> u8 {
-    if let Err(refusal) = check_length(bytes.len()) {
-        return refusal.number();
+    match check_file(&worked_board(), bytes) {
+        Ok(()) => 0,
+        Err(refusal) => refusal.number(),
     }
-    let reader = Reader::new(bytes);
-    for k in 0..64 {
-        if k < reader.blocks() {
-            if let Err(refusal) = check_block(&worked_board(), k as u8, reader.block(k as u8)) {
-                return refusal.number();
-            }
-        }
-    }
-    0
 }
 
 // What stands behind the file in the buffer is left.
 #[test]
-fn worked_bytes(rt: HostRuntime) -> Result<(), Fail> {
+fn worked_bytes(rt: HostRuntime) {
     let mut out = [7; 600];
-    match write_file(&worked_board(), &worked_rows(), &mut out) {
-        Ok(size) => assert_eq!(rt; size, 512),
-        Err(_) => return Err(Fail::new("refused")),
-    }
+    let told = write_file(&worked_board(), &worked_rows(), &mut out);
+    assert_eq!(rt; told, Ok(512));
     let expected = [
         0, 0, 3, 2, 1, 0, 0, 0, 1, 0, 1, 0, 0, 0, 0, 2, 0, 0, 0, 10, 0, 0, 0, 10,
     ];
-    for k in 0..24 {
-        assert_eq!(rt; out[k], expected[k]);
-    }
+    assert!(rt; out.starts_with(&expected));
     assert_eq!(rt; out[56], 2, "the second record's number");
     assert_eq!(rt; out[105], 1, "the third record's core");
-    for k in 152..510 {
-        assert_eq!(rt; out[k], 0);
-    }
+    assert!(rt; out.iter().skip(152).take(358).all(|byte| *byte == 0));
     assert_eq!(rt; out[510], 0);
     assert_eq!(rt; out[511], 114);
-    for k in 512..600 {
-        assert_eq!(rt; out[k], 7);
-    }
+    assert!(rt; out.iter().skip(512).all(|byte| *byte == 7));
     assert_eq!(rt; refused(&worked_file()), 0);
-    Ok(())
 }
 
 #[test]
@@ -132,18 +93,12 @@ fn worked_read_back(rt: HostRuntime) {
 
 // 64 tasks fill seven blocks, the last with four records.
 #[test]
-fn full_table(rt: HostRuntime) -> Result<(), Fail> {
-    let rows = [ROW; 66];
+fn full_table(rt: HostRuntime) {
     let mut out = [0; 3584];
-    match write_file(&LARGEST, &rows, &mut out) {
-        Ok(size) => assert_eq!(rt; size, 3584),
-        Err(_) => return Err(Fail::new("refused")),
-    }
+    assert_eq!(rt; write_file(&LARGEST, &[ROW; 66], &mut out), Ok(3584));
     let reader = Reader::new(&out);
     assert_eq!(rt; reader.blocks(), 7);
-    for k in 0..7u8 {
-        assert!(rt; check_block(&LARGEST, k, reader.block(k)).is_ok());
-    }
+    assert!(rt; check_file(&LARGEST, &out).is_ok());
     assert_eq!(rt; reader.count(5), 10);
     assert_eq!(rt; reader.count(6), 4);
     let (bytes, _, _) = reader.record(6, 3);
@@ -155,36 +110,37 @@ fn full_table(rt: HostRuntime) -> Result<(), Fail> {
     assert_eq!(rt; record.row.figures.period, 10_000_000);
     assert_eq!(rt; record.row.figures.sensitivity, [0, 1, 2, 256]);
     assert_eq!(rt; record.row.figures.stress, [65_536, 5, 6, 7]);
-    Ok(())
 }
 
 // No task makes one block without a record; rows that are no tasks are left out.
 #[test]
-fn no_tasks(rt: HostRuntime) -> Result<(), Fail> {
+fn no_tasks(rt: HostRuntime) {
     let rows = [Row::EMPTY, Row { used: false, ..ROW }];
     let mut out = [7; 512];
-    match write_file(&worked_board(), &rows, &mut out) {
-        Ok(size) => assert_eq!(rt; size, 512),
-        Err(_) => return Err(Fail::new("refused")),
-    }
+    let told = write_file(&worked_board(), &rows, &mut out);
+    assert_eq!(rt; told, Ok(512));
     assert_eq!(rt; out[2], 0);
     assert_eq!(rt; out[511], 3);
     assert_eq!(rt; refused(&out), 0);
-    Ok(())
 }
 
 #[test]
-fn lengths(rt: HostRuntime) -> Result<(), Fail> {
-    let wrong = [0, 1, 511, 513, 32_767, 32_769, 33_280];
-    for k in 0..7 {
-        match check_length(wrong[k]) {
-            Err(refusal) => assert_eq!(rt; refusal.number(), 2),
-            Ok(()) => return Err(Fail::new("passed")),
-        }
+fn lengths(rt: HostRuntime) {
+    let told = [
+        (0, 2),
+        (1, 2),
+        (511, 2),
+        (513, 2),
+        (32_767, 2),
+        (32_769, 2),
+        (33_280, 2),
+        (512, 0),
+        (32_768, 0),
+    ];
+    for (length, number) in told {
+        let refusal = check_length(length);
+        assert_eq!(rt; refusal.map_or(0, Refusal::number), number);
     }
-    assert!(rt; check_length(512).is_ok());
-    assert!(rt; check_length(32_768).is_ok());
-    Ok(())
 }
 
 // A byte of the worked file, its new value, and the refusal once the check is made good again.
@@ -210,8 +166,7 @@ fn damaged(rt: HostRuntime) {
         (11, 1, 0),
         (12, 255, 0),
     ];
-    for k in 0..17 {
-        let (at, byte, refusal) = damages[k];
+    for (at, byte, refusal) in damages {
         let file = changed(worked_file(), at, byte);
         assert_eq!(rt; refused(&file), 3, "the check differs");
         assert_eq!(rt; refused(&mended(file)), refusal);
@@ -238,14 +193,9 @@ fn two_faults(rt: HostRuntime) {
 }
 
 #[test]
-fn short_buffer(rt: HostRuntime) -> Result<(), Fail> {
+fn short_buffer(rt: HostRuntime) {
     let mut out = [9; 511];
-    match write_file(&worked_board(), &worked_rows(), &mut out) {
-        Ok(_) => return Err(Fail::new("written")),
-        Err(refusal) => assert_eq!(rt; refusal.number(), 14),
-    }
-    for k in 0..511 {
-        assert_eq!(rt; out[k], 9);
-    }
-    Ok(())
+    let told = write_file(&worked_board(), &worked_rows(), &mut out);
+    assert_eq!(rt; told.map_err(Refusal::number), Err(14));
+    assert_eq!(rt; out, [9; 511]);
 }

@@ -1,11 +1,11 @@
 // Orders, judging, and all response times together, on small tables.
 use bounds::deadline::Deadline;
-use bounds::response::{respond, settle};
+use bounds::response::{Unsettled, respond, settle};
 use figures::{worked_board, worked_rows};
 use ordering::judging::find_unbound;
 use ordering::search::find_order;
 use ordering::writing::order_core;
-use std::test::Fail;
+use std::panic::Expect;
 use table::board::Board;
 use table::row::{Figures, Row};
 
@@ -32,64 +32,42 @@ fn two(period: u32) -> [Row; 2] {
 
 // Task 1 is placed lowest, then 2, and nothing but their ranks changes.
 #[test]
-fn worked_order(rt: HostRuntime) -> Result<(), Fail> {
+fn worked_order(rt: HostRuntime) {
     let mut rows = worked_rows();
-    match order_core(&worked_board(), &mut rows, 0, &Deadline) {
-        Ok(found) => {
-            assert_eq!(rt; found.trials, 2);
-            assert_eq!(rt; found.order.count, 2);
-            let lowest = found.order.numbers[0];
-            let next = found.order.numbers[1];
-            assert_eq!(rt; lowest, 1);
-            assert_eq!(rt; next, 2);
-        }
-        Err(_) => return Err(Fail::new("refused")),
-    }
+    let told = order_core(&worked_board(), &mut rows, 0, &Deadline);
+    let found = told.ok().expect(&rt, "refused");
+    assert_eq!(rt; found.trials, 2);
+    assert_eq!(rt; found.order.numbers.as_slice(), [1, 2].as_slice());
     assert_eq!(rt; rows[1].rank, 2);
     assert_eq!(rt; rows[2].rank, 1);
     assert_eq!(rt; rows[3].rank, 1);
     assert_eq!(rt; rows[1].figures.cost, 2);
-    Ok(())
 }
 
 #[test]
-fn just_fits(rt: HostRuntime) -> Result<(), Fail> {
-    match find_order(&ONE_CORE, &two(12), 0, &Deadline) {
-        Ok(found) => {
-            assert_eq!(rt; found.trials, 2);
-            Ok(())
-        },
-        Err(_) => Err(Fail::new("refused")),
-    }
+fn just_fits(rt: HostRuntime) {
+    let told = find_order(&ONE_CORE, &two(12), 0, &Deadline);
+    assert_eq!(rt; told.ok().map(|found| found.trials), Some(2));
 }
 
 // Where no order passes, no rank is written.
 #[test]
-fn impossible(rt: HostRuntime) -> Result<(), Fail> {
+fn impossible(rt: HostRuntime) {
     let mut rows = two(11);
-    match order_core(&ONE_CORE, &mut rows, 0, &Deadline) {
-        Ok(_) => return Err(Fail::new("ordered")),
-        Err(none) => {
-            assert_eq!(rt; none.trials, 2);
-            assert_eq!(rt; none.unplaced, 2);
-        }
-    }
+    let told = order_core(&ONE_CORE, &mut rows, 0, &Deadline);
+    let none = told.err().expect(&rt, "ordered");
+    assert_eq!(rt; none.trials, 2);
+    assert_eq!(rt; none.unplaced, 2);
     assert_eq!(rt; rows[0].rank, 1);
     assert_eq!(rt; rows[1].rank, 2);
-    Ok(())
 }
 
 // A core without tasks has the empty order, which passes.
 #[test]
-fn no_tasks(rt: HostRuntime) -> Result<(), Fail> {
+fn no_tasks(rt: HostRuntime) {
     assert_eq!(rt; find_unbound(&ONE_CORE, &[], 0, &Deadline), None);
-    match find_order(&ONE_CORE, &[], 0, &Deadline) {
-        Ok(found) => {
-            assert_eq!(rt; found.order.count, 0);
-            Ok(())
-        },
-        Err(_) => Err(Fail::new("refused")),
-    }
+    let told = find_order(&ONE_CORE, &[], 0, &Deadline);
+    assert_eq!(rt; told.ok().map(|found| found.order.numbers.len()), Some(0));
 }
 
 // Of two tasks without a bound the one of higher rank is named.
@@ -101,40 +79,32 @@ fn judged(rt: HostRuntime) {
     assert_eq!(rt; find_unbound(&ONE_CORE, &[b, a], 0, &Deadline), Some(1));
 }
 
+fn number_of(why: Unsettled) -> u8 {
+    why.refusal().number()
+}
+
 // What is behind the rows' places is left, and a list that is too short is left whole.
 #[test]
-fn settled(rt: HostRuntime) -> Result<(), Fail> {
+fn settled(rt: HostRuntime) {
     let rows = worked_rows();
     let mut times = [9; 5];
-    match settle(&worked_board(), &rows, &mut times) {
-        Ok(round) => assert_eq!(rt; round, 2),
-        Err(_) => return Err(Fail::new("refused")),
-    }
+    let told = settle(&worked_board(), &rows, &mut times);
+    assert_eq!(rt; told.map_err(number_of), Ok(2));
     assert_eq!(rt; times, [0, 3, 6, 5, 9]);
     let mut short = [9; 3];
-    match settle(&worked_board(), &rows, &mut short) {
-        Ok(_) => return Err(Fail::new("settled")),
-        Err(why) => assert_eq!(rt; why.refusal().number(), 14),
-    }
+    let told = settle(&worked_board(), &rows, &mut short);
+    assert_eq!(rt; told.map_err(number_of), Err(14));
     assert_eq!(rt; short, [9, 9, 9]);
-    Ok(())
 }
 
 #[test]
-fn unsettled(rt: HostRuntime) -> Result<(), Fail> {
+fn unsettled(rt: HostRuntime) {
     let rows = two(11);
-    match respond(&ONE_CORE, &rows) {
-        Ok(_) => return Err(Fail::new("settled")),
-        Err(none) => {
-            assert_eq!(rt; none.task, 1);
-            assert_eq!(rt; none.round, 1);
-        }
-    }
+    let none = respond(&ONE_CORE, &rows).err().expect(&rt, "settled");
+    assert_eq!(rt; none.task, 1);
+    assert_eq!(rt; none.round, 1);
     let mut times = [9; 2];
-    match settle(&ONE_CORE, &rows, &mut times) {
-        Ok(_) => return Err(Fail::new("settled")),
-        Err(why) => assert_eq!(rt; why.refusal().number(), 13),
-    }
+    let told = settle(&ONE_CORE, &rows, &mut times);
+    assert_eq!(rt; told.map_err(number_of), Err(13));
     assert_eq!(rt; times, [9, 9]);
-    Ok(())
 }

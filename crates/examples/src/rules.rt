@@ -5,22 +5,21 @@ use table::row::{Figures, Row};
 use table::set::TaskSet;
 use table::tasks::Tasks;
 
-fn refused(cores: u8, resources: u8) -> u8 {
-    match Board::new(cores, resources) {
-        Ok(_) => 0,
-        Err(refusal) => refusal.number(),
-    }
-}
-
 // Boards outside 1 to 8 cores or 0 to 4 resources get refusal 1.
 #[test]
 fn boards(rt: HostRuntime) {
-    assert_eq!(rt; refused(1, 0), 0);
-    assert_eq!(rt; refused(8, 4), 0);
-    assert_eq!(rt; refused(0, 0), 1);
-    assert_eq!(rt; refused(9, 0), 1);
-    assert_eq!(rt; refused(1, 5), 1);
-    assert_eq!(rt; refused(255, 255), 1);
+    let told = [
+        (1, 0, 0),
+        (8, 4, 0),
+        (0, 0, 1),
+        (9, 0, 1),
+        (1, 5, 1),
+        (255, 255, 1),
+    ];
+    for (cores, resources, number) in told {
+        let refusal = Board::new(cores, resources).err();
+        assert_eq!(rt; refusal.map_or(0, Refusal::number), number);
+    }
 }
 
 #[test]
@@ -41,8 +40,8 @@ fn refusal_numbers(rt: HostRuntime) {
         Refusal::NoBound,
         Refusal::BufferTooShort,
     ];
-    for k in 0..14 {
-        assert_eq!(rt; all[k].number() as usize, k + 1);
+    for (refusal, number) in all.into_iter().zip(1..) {
+        assert_eq!(rt; refusal.number(), number);
     }
 }
 
@@ -56,69 +55,49 @@ const PLAIN: Figures = Figures {
 
 const MOST: u32 = 10_000_000;
 
+fn with_times(cost: u32, period: u32, deadline: u32) -> Figures {
+    Figures {
+        cost,
+        period,
+        deadline,
+        ..PLAIN
+    }
+}
+
 // Each limit from both sides.
 #[test]
 fn limits(rt: HostRuntime) {
-    assert!(rt; PLAIN.in_limits());
-    assert!(rt;
-        Figures {
-            period: MOST,
+    let told = [
+        (PLAIN, true),
+        (with_times(1, MOST, 10), true),
+        (with_times(1, MOST + 1, 10), false),
+        (with_times(1, 9, 10), false),
+        (with_times(1, 10, 0), false),
+        (with_times(0, 10, 10), false),
+        // A task may be longer than its deadline.
+        (with_times(MOST, 10, 10), true),
+        (with_times(MOST + 1, 10, 10), false),
+    ];
+    for (figures, fits) in told {
+        assert_eq!(rt; figures.in_limits(), fits);
+    }
+}
+
+#[test]
+fn contention_limits(rt: HostRuntime) {
+    let told = [
+        ([MOST; 4], [0; 4], true),
+        ([0, 0, 0, MOST + 1], [0; 4], false),
+        ([0; 4], [MOST + 1, 0, 0, 0], false),
+    ];
+    for (sensitivity, stress, fits) in told {
+        let figures = Figures {
+            sensitivity,
+            stress,
             ..PLAIN
-        }
-        .in_limits()
-    );
-    assert!(rt;
-        !Figures {
-            period: MOST + 1,
-            ..PLAIN
-        }
-        .in_limits()
-    );
-    assert!(rt; !Figures { period: 9, ..PLAIN }.in_limits());
-    assert!(rt;
-        !Figures {
-            deadline: 0,
-            ..PLAIN
-        }
-        .in_limits()
-    );
-    assert!(rt; !Figures { cost: 0, ..PLAIN }.in_limits());
-    assert!(rt;
-        Figures {
-            cost: MOST,
-            ..PLAIN
-        }
-        .in_limits(),
-        "a task may be longer than its deadline"
-    );
-    assert!(rt;
-        !Figures {
-            cost: MOST + 1,
-            ..PLAIN
-        }
-        .in_limits()
-    );
-    assert!(rt;
-        Figures {
-            sensitivity: [MOST; 4],
-            ..PLAIN
-        }
-        .in_limits()
-    );
-    assert!(rt;
-        !Figures {
-            sensitivity: [0, 0, 0, MOST + 1],
-            ..PLAIN
-        }
-        .in_limits()
-    );
-    assert!(rt;
-        !Figures {
-            stress: [MOST + 1, 0, 0, 0],
-            ..PLAIN
-        }
-        .in_limits()
-    );
+        };
+        assert_eq!(rt; figures.in_limits(), fits);
+    }
 }
 
 // A row is a task when it is used, in limits and below place 64.
@@ -170,21 +149,24 @@ fn ranked(rt: HostRuntime) {
         },
     ];
     let above = TaskSet::higher_ranked(&rows, 0);
-    assert!(rt; !above.has(0));
-    assert!(rt; above.has(1));
-    assert!(rt; !above.has(2));
-    assert!(rt; !above.has(3));
-    assert!(rt; !above.has(4));
-    assert!(rt; !above.has(64));
+    for (number, is_above) in [
+        (0, false),
+        (1, true),
+        (2, false),
+        (3, false),
+        (4, false),
+        (64, false),
+    ] {
+        assert_eq!(rt; above.has(number), is_above);
+    }
 }
 
 #[test]
 fn sets(rt: HostRuntime) {
     let set = TaskSet::EMPTY.with(0).with(63).with(64);
-    assert!(rt; set.has(0));
-    assert!(rt; !set.has(1));
-    assert!(rt; set.has(63));
-    assert!(rt; !set.has(64));
+    for (number, has) in [(0, true), (1, false), (63, true), (64, false)] {
+        assert_eq!(rt; set.has(number), has);
+    }
     assert_eq!(rt; set.size(), 2);
     assert!(rt; !set.without(0).has(0));
     assert_eq!(rt; set.without(5).without(64).size(), 2);

@@ -41,9 +41,10 @@ holds (bound meaning board rows number figure) = same_bound (meaning board rows 
 holds (order meaning board rows core outcome) = same_outcome (search_for (meaning board rows) (on_core rows core)) outcome
 holds (settle board rows list round) = settled_as (settled board rows) list round
 
-abbrev pub all_hold : List Line → Bool
-all_hold [] = true
-all_hold (line ∷ lines) = holds line && all_hold lines
+-- every line of a table holds, where `good` says which lines do
+abbrev pub all_hold : {L : Type 0} → (L → Bool) → List L → Bool
+all_hold good [] = true
+all_hold good (line ∷ lines) = good line && all_hold good lines
 
 abbrev pub figures : List Line
 figures =

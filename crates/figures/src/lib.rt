@@ -1,7 +1,7 @@
 // The worked example, and the figures that were worked out by hand.
 #![tactic(auto)]
 
-ghost use Rattle.figures.specs.Figures.{all_hold, figures};
+ghost use Rattle.figures.specs.Figures.{all_hold, figures, holds};
 ghost use Rattle.figures.specs.Tables.{task_row, two_cores, worked_rows};
 ghost use Rattle.std.specs.Prelude.{◌≡◌, true};
 
@@ -40,7 +40,7 @@ fn task_row(core: u8, rank: u8, cost: u32, period: u32, deadline: u32, x: u32, y
 // that was worked out by hand for it and for the other small tables.
 pub fn worked_rows() -> [Row; 4]
     ensures answer { result ≡ worked_rows }
-    ensures figures { all_hold figures ≡ true }
+    ensures figures { all_hold holds figures ≡ true }
 {
     [
         Row::EMPTY,

@@ -4,7 +4,6 @@ use bounds::composable::Composable;
 use bounds::deadline::Deadline;
 use sheet::entry::Entry;
 use sheet::open::OpenSheet;
-use std::test::Fail;
 use table::board::Board;
 use table::refusal::Refusal;
 use table::row::{Figures, Row};
@@ -36,10 +35,7 @@ pub(crate) fn entry(number: usize, core: u8, rank: u8) -> Entry {
 
 // The number of a refusal, and 0 for an accepted call.
 pub(crate) fn number_of(told: Result<(), Refusal>) -> u8 {
-    match told {
-        Ok(()) => 0,
-        Err(refusal) => refusal.number(),
-    }
+    told.err().map_or(0, Refusal::number)
 }
 
 fn enter(sheet: &mut OpenSheet<'_>, number: usize, core: u8, rank: u8) -> u8 {
@@ -58,15 +54,22 @@ fn enter_figures(sheet: &mut OpenSheet<'_>, figures: Figures) -> u8 {
 fn entering(rt: HostRuntime) {
     let mut rows = [Row::EMPTY; 3];
     let mut sheet = OpenSheet::open(TWO_CORES, &mut rows);
-    assert_eq!(rt; enter(&mut sheet, 0, 0, 1), 0);
-    assert_eq!(rt; enter(&mut sheet, 3, 2, 65), 7, "past the list");
-    assert_eq!(rt; enter(&mut sheet, 0, 2, 65), 8);
-    assert_eq!(rt; enter(&mut sheet, 1, 2, 65), 10);
-    assert_eq!(rt; enter(&mut sheet, 1, 0, 0), 11);
-    assert_eq!(rt; enter(&mut sheet, 1, 0, 65), 11);
-    assert_eq!(rt; enter(&mut sheet, 1, 0, 1), 11, "taken");
-    assert_eq!(rt; enter(&mut sheet, 1, 1, 1), 0, "taken on another core");
-    assert_eq!(rt; enter(&mut sheet, 2, 0, 64), 0);
+    let told = [
+        (0, 0, 1, 0),
+        // Past the list.
+        (3, 2, 65, 7),
+        (0, 2, 65, 8),
+        (1, 2, 65, 10),
+        (1, 0, 0, 11),
+        (1, 0, 65, 11),
+        // Taken, and taken on another core.
+        (1, 0, 1, 11),
+        (1, 1, 1, 0),
+        (2, 0, 64, 0),
+    ];
+    for (number, core, rank, refusal) in told {
+        assert_eq!(rt; enter(&mut sheet, number, core, rank), refusal);
+    }
 }
 
 #[test]
@@ -100,7 +103,7 @@ fn limits(rt: HostRuntime) {
 
 // A task that is longer than its deadline is entered, and has no bound.
 #[test]
-fn without_a_bound(rt: HostRuntime) -> Result<(), Fail> {
+fn without_a_bound(rt: HostRuntime) {
     let mut rows = [Row::EMPTY; 1];
     let mut sheet = OpenSheet::open(TWO_CORES, &mut rows);
     let long = Entry {
@@ -108,13 +111,10 @@ fn without_a_bound(rt: HostRuntime) -> Result<(), Fail> {
         ..entry(0, 0, 1)
     };
     assert_eq!(rt; number_of(sheet.enter(&long)), 0);
-    match sheet.bound(0, &Deadline) {
-        Ok(_) => return Err(Fail::new("bounded")),
-        Err(refusal) => assert_eq!(rt; refusal.number(), 13),
-    }
+    let told = sheet.bound(0, &Deadline);
+    assert_eq!(rt; told.map_err(Refusal::number), Err(13));
     assert_eq!(rt; number_of(sheet.amend(0, &PLAIN)), 0);
     assert_eq!(rt; sheet.bound(0, &Deadline).ok(), Some(2));
-    Ok(())
 }
 
 // A number may be used again; rows from place 64 on are never touched.

@@ -4,8 +4,6 @@
 #[cfg(test)]
 mod edited;
 #[cfg(test)]
-mod filed;
-#[cfg(test)]
 mod loaded;
 #[cfg(test)]
 mod reported;

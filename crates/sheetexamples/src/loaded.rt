@@ -1,14 +1,16 @@
 // Loading, judging, ordering and settling on a sheet, and whole runs.
 use crate::edited::{TWO_CORES, entry, number_of};
-use crate::filed::{changed, joined, mended, worked_file};
 use bounds::composable::Composable;
 use bounds::deadline::Deadline;
+use examples::files::{changed, joined, mended, worked_file};
+use ordering::order::NoOrder;
 use promise::call::{Answer, Call};
 use promise::run::run;
 use sheet::entry::Entry;
 use sheet::open::OpenSheet;
 use sheet::refused::{Layer, NotOrdered, NotPassing};
-use std::test::Fail;
+use std::panic::Expect;
+use table::refusal::Refusal;
 use table::row::{Figures, Row};
 use table::testing::Test;
 
@@ -28,23 +30,9 @@ fn loading(rt: HostRuntime) {
     assert_eq!(rt; stop_of(&file), (0, 0, 0, 3));
     assert_eq!(rt; stop_of(&file[0..511]), (2, 0, 0, 0));
     assert_eq!(rt; stop_of(&changed(file, 40, 9)), (3, 0, 0, 0));
-    assert_eq!(rt; stop_of(&mended(changed(file, 1, 1))), (4, 0, 0, 0));
     assert_eq!(rt; stop_of(&[0; 512]), (5, 0, 0, 0));
-    assert_eq!(rt; stop_of(&mended(changed(file, 104, 64))), (7, 0, 2, 2));
-    assert_eq!(rt; stop_of(&mended(changed(file, 104, 2))), (8, 0, 2, 2));
-    assert_eq!(rt; stop_of(&mended(changed(file, 57, 2))), (10, 0, 1, 1));
-    assert_eq!(rt; stop_of(&mended(changed(file, 58, 1))), (11, 0, 1, 1));
-    assert_eq!(rt;
-        stop_of(&mended(changed(file, 59, 1))),
-        (6, 0, 1, 1),
-        "fourth byte"
-    );
-    assert_eq!(rt;
-        stop_of(&mended(changed(file, 15, 0))),
-        (6, 0, 0, 0),
-        "C of 0"
-    );
     let second = mended(changed(file, 1, 1));
+    assert_eq!(rt; stop_of(&second), (4, 0, 0, 0));
     assert_eq!(rt;
         stop_of(&joined(file, second)),
         (8, 1, 0, 3),
@@ -53,18 +41,35 @@ fn loading(rt: HostRuntime) {
     assert_eq!(rt; stop_of(&joined(file, file)), (4, 1, 0, 3));
 }
 
+// A byte of the worked file, its new value, and what is told once the check is made good again.
+#[test]
+fn loading_records(rt: HostRuntime) {
+    let told = [
+        (104, 64, (7, 0, 2, 2)),
+        (104, 2, (8, 0, 2, 2)),
+        (57, 2, (10, 0, 1, 1)),
+        (58, 1, (11, 0, 1, 1)),
+        // The fourth byte.
+        (59, 1, (6, 0, 1, 1)),
+        // C of 0.
+        (15, 0, (6, 0, 0, 0)),
+    ];
+    for (at, byte, stop) in told {
+        let file = mended(changed(worked_file(), at, byte));
+        assert_eq!(rt; stop_of(&file), stop);
+    }
+}
+
 // The layer goes by the cause, and each record that is entered loosens.
 #[test]
-fn stopping(rt: HostRuntime) -> Result<(), Fail> {
+fn stopping(rt: HostRuntime) {
     let mut rows = [Row::EMPTY; 64];
     let mut sheet = OpenSheet::open(TWO_CORES, &mut rows);
     assert!(rt; sheet.judge(0, &Composable).is_ok());
     assert!(rt; sheet.judge(1, &Composable).is_ok());
     let file = mended(changed(worked_file(), 59, 1));
-    match sheet.load(&file) {
-        Ok(_) => return Err(Fail::new("loaded")),
-        Err(stop) => assert_eq!(rt; stop.layer, Layer::Row),
-    }
+    let stop = sheet.load(&file).err().expect(&rt, "loaded");
+    assert_eq!(rt; stop.layer, Layer::Row);
     assert!(rt;
         !sheet.marks()[0].is_standing(),
         "one record was entered on core 0"
@@ -72,7 +77,6 @@ fn stopping(rt: HostRuntime) -> Result<(), Fail> {
     assert!(rt; sheet.marks()[1].is_standing());
     assert!(rt; rows[1].used);
     assert!(rt; !rows[2].used);
-    Ok(())
 }
 
 fn half(number: usize, rank: u8, period: u32) -> Entry {
@@ -90,57 +94,53 @@ fn half(number: usize, rank: u8, period: u32) -> Entry {
 
 // Two tasks of C 6 pass in 12, and no order of them does in 11: then nothing is written.
 #[test]
-fn ordering(rt: HostRuntime) -> Result<(), Fail> {
+fn ordering(rt: HostRuntime) {
     let mut rows = [Row::EMPTY; 2];
     let mut sheet = OpenSheet::open(TWO_CORES, &mut rows);
     assert_eq!(rt; number_of(sheet.enter(&half(0, 1, 12))), 0);
     assert_eq!(rt; number_of(sheet.enter(&half(1, 2, 12))), 0);
-    match sheet.order(0, &Deadline) {
-        Ok(trials) => assert_eq!(rt; trials, 2),
-        Err(_) => return Err(Fail::new("refused")),
-    }
+    assert_eq!(rt; sheet.order(0, &Deadline).ok(), Some(2));
     assert_eq!(rt; sheet.bound(0, &Deadline).ok(), Some(12));
     assert_eq!(rt; number_of(sheet.amend(0, &half(0, 1, 11).figures)), 0);
     assert_eq!(rt; number_of(sheet.amend(1, &half(1, 2, 11).figures)), 0);
-    match sheet.order(0, &Deadline) {
-        Err(NotOrdered::NoOrder(none)) => {
-            assert_eq!(rt; none.trials, 2);
-            assert_eq!(rt; none.unplaced, 2);
-        }
-        _ => return Err(Fail::new("ordered")),
-    }
-    match sheet.judge(0, &Deadline) {
-        Err(NotPassing::NoBound(number)) => assert_eq!(rt; number, 0),
-        _ => return Err(Fail::new("judged")),
-    }
+    assert!(rt;
+        matches!(
+            sheet.order(0, &Deadline),
+            Err(NotOrdered::NoOrder(NoOrder {
+                trials: 2,
+                unplaced: 2
+            }))
+        )
+    );
+    assert!(rt; matches!(sheet.judge(0, &Deadline), Err(NotPassing::NoBound(0))));
     assert!(rt; matches!(sheet.order(2, &Deadline), Err(NotOrdered::CoreLacking)));
     assert_eq!(rt; rows[0].rank, 2, "as the first ordering left it");
     assert_eq!(rt; rows[1].rank, 1);
-    Ok(())
 }
 
 #[test]
-fn settling(rt: HostRuntime) -> Result<(), Fail> {
+fn settling(rt: HostRuntime) {
     let mut rows = [Row::EMPTY; 4];
     let mut sheet = OpenSheet::open(TWO_CORES, &mut rows);
     assert!(rt; sheet.load(&worked_file()).is_ok());
     let mut short = [9; 3];
-    match sheet.settle(&mut short) {
-        Ok(_) => return Err(Fail::new("settled")),
-        Err(why) => assert_eq!(rt; why.refusal().number(), 14),
-    }
+    let why = sheet.settle(&mut short).err().expect(&rt, "settled");
+    assert_eq!(rt; why.refusal().number(), 14);
     assert_eq!(rt; short, [9; 3]);
     let mut times = [9; 5];
     assert_eq!(rt; sheet.settle(&mut times).ok(), Some(2));
     assert_eq!(rt; times, [0, 3, 6, 5, 9]);
-    Ok(())
+}
+
+// The number of an answer's refusal, or 0.
+fn number_in(answer: &Answer) -> u8 {
+    answer.refusal().map_or(0, Refusal::number)
 }
 
 // A run of every kind of call; and one with too few places for answers, which does nothing.
 #[test]
-fn running(rt: HostRuntime) -> Result<(), Fail> {
+fn running(rt: HostRuntime) {
     let file = worked_file();
-    let board = TWO_CORES;
     let calls = [
         Call::Load(&file),
         Call::Enter(entry(4, 1, 1)),
@@ -150,30 +150,20 @@ fn running(rt: HostRuntime) -> Result<(), Fail> {
         Call::Withdraw(3),
         Call::Order(1),
     ];
-    let told = [0, 11, 0, 0, 0, 0, 0];
     let mut rows = [Row::EMPTY; 64];
     let mut answers = [Answer::Unasked; 7];
-    match run(board, &mut rows, &Deadline, &calls, &mut answers) {
-        Ok(marks) => {
-            assert!(rt;
-                !marks[0].is_standing(),
-                "loosened by the amendment on core 1"
-            );
-            assert!(rt; marks[1].is_standing());
-        }
-        Err(_) => return Err(Fail::new("no room")),
+    let told = run(TWO_CORES, &mut rows, &Deadline, &calls, &mut answers);
+    let marks = told.expect(&rt, "no room");
+    assert!(rt;
+        !marks[0].is_standing(),
+        "loosened by the amendment on core 1"
+    );
+    assert!(rt; marks[1].is_standing());
+    for (answer, number) in answers.iter().zip([0, 11, 0, 0, 0, 0, 0]) {
+        assert_eq!(rt; number_in(answer), number);
     }
-    for k in 0..7 {
-        let number = match answers[k].refusal() {
-            Some(refusal) => refusal.number(),
-            None => 0,
-        };
-        assert_eq!(rt; number, told[k]);
-    }
-    match run(board, &mut rows, &Deadline, &calls, &mut answers[0..6]) {
-        Ok(_) => return Err(Fail::new("room")),
-        Err(refusal) => assert_eq!(rt; refusal.number(), 14),
-    }
+    let short = &mut answers[0..6];
+    let told = run(TWO_CORES, &mut rows, &Deadline, &calls, short);
+    assert_eq!(rt; told.err().map(Refusal::number), Some(14));
     assert!(rt; rows[1].used, "not even opened");
-    Ok(())
 }

@@ -1,30 +1,15 @@
 // Reports, saved files, and what the program prints.
 use crate::edited::{TWO_CORES, entry, number_of};
-use crate::filed::{changed, mended, worked_file};
 use bounds::deadline::Deadline;
+use examples::files::{changed, mended, worked_file};
 use report::analysing::analyse;
 use report::reporting::report;
 use sheet::open::OpenSheet;
 use std::process::Abort;
 use table::row::Row;
 
-// The text at the front of a buffer is this one.
-fn begins(out: &[u8], text: &[u8]) -> bool {
-    if out.len() < text.len() {
-        return false;
-    }
-    for k in 0..text.len() {
-        if k < out.len() && out[k] != text[k] {
-            return false;
-        }
-    }
-    true
-}
-
 fn prints(rt: &impl Abort, file: &[u8], text: &[u8]) {
-    let printed = analyse(file);
-    assert_eq!(rt; printed.as_bytes().len(), text.len());
-    assert!(rt; begins(printed.as_bytes(), text));
+    assert_eq!(rt; analyse(file).as_bytes(), text);
 }
 
 #[test]
@@ -40,7 +25,7 @@ fn reporting(rt: HostRuntime) {
     assert_eq!(rt; short[0], 7);
     let mut out = [7; 56];
     assert_eq!(rt; report(&closed, &Deadline, &mut out).ok(), Some(55));
-    assert!(rt; begins(&out, text));
+    assert!(rt; out.starts_with(text));
     assert_eq!(rt; out[55], 7);
 }
 

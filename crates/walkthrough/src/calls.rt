@@ -1,10 +1,10 @@
 // What the calls of a run answered: the load of the file, and an ordering of each core.
-use crate::tables::ending;
+use ordering::order::NoOrder;
 use promise::call::Answer;
 use sheet::marks::Mark;
 use sheet::refused::{Layer, NotOrdered, Stopped};
-use std::io;
-use table::board::Board;
+use std::fmt;
+use telling::counted::Counted;
 
 fn name_of(layer: Layer) -> &'static str {
     match layer {
@@ -14,63 +14,117 @@ fn name_of(layer: Layer) -> &'static str {
     }
 }
 
-fn show_stop(rt: &HostRuntime, stopped: &Stopped) -> io::Result<()> {
-    let number = stopped.cause.number();
-    let layer = name_of(stopped.layer);
-    let block = stopped.block;
-    let record = stopped.record;
-    let entered = stopped.entered;
-    println!(rt;
-        "The load stopped with refusal {number}, of the {layer}, at record {record} of block {block}; {entered} entered"
-    )
-}
+#[derive(Clone, Copy)]
+struct StopTold(Stopped);
 
-fn show_ordered(rt: &HostRuntime, core: u8, told: &Result<u32, NotOrdered>) -> io::Result<()> {
-    match told {
-        Ok(trials) => {
-            let of_trials = ending(*trials);
-            println!(rt; "Core {core} was ordered in {trials} trial{of_trials}")
-        }
-        Err(NotOrdered::NoOrder(none)) => {
-            let trials = none.trials;
-            let unplaced = none.unplaced;
-            println!(rt;
-                "No order of core {core} passes: {trials} trials, {unplaced} tasks unplaced"
-            )
-        }
-        Err(NotOrdered::CoreLacking) => println!(rt; "The board has no core {core}"),
+impl fmt::Display for StopTold {
+    fn fmt<W: fmt::Write>(&self, f: &mut fmt::Formatter<W>) -> fmt::Result {
+        let Stopped {
+            layer,
+            cause,
+            block,
+            record,
+            entered,
+        } = self.0;
+        let layer = name_of(layer);
+        write!(
+            f,
+            "The load stopped with refusal {cause}, of the {layer}, at record {record} of block {block}; {entered} entered"
+        )
     }
 }
 
 // What the load answered, which is the first answer.
-fn show_load(rt: &HostRuntime, answer: &Answer) -> io::Result<()> {
-    match answer {
-        Answer::Loaded(Ok(entered)) => println!(rt; "The file was loaded: {entered} tasks entered"),
-        Answer::Loaded(Err(stopped)) => show_stop(rt, stopped),
-        _ => Ok(()),
+#[derive(Clone, Copy)]
+struct LoadTold(Option<Answer>);
+
+impl fmt::Display for LoadTold {
+    fn fmt<W: fmt::Write>(&self, f: &mut fmt::Formatter<W>) -> fmt::Result {
+        match self.0 {
+            Some(Answer::Loaded(Ok(entered))) => {
+                write!(f, "The file was loaded: {entered} tasks entered")
+            }
+            Some(Answer::Loaded(Err(stopped))) => write!(f, "{}", StopTold(stopped)),
+            _ => Ok(()),
+        }
     }
 }
 
-// The answers of the load and of the orderings, and then the marks.
-pub(crate) fn show_calls(
-    rt: &HostRuntime,
-    board: &Board,
-    answers: &[Answer; 9],
-    marks: &[Mark; 8],
-) -> io::Result<()> {
-    println!(rt)?;
-    show_load(rt, &answers[0])?;
-    for core in 0..board.cores {
-        if let Answer::Ordered(told) = &answers[core as usize + 1] {
-            show_ordered(rt, core, told)?;
+#[derive(Clone, Copy)]
+struct OrderTold {
+    core: usize,
+    told: Result<u32, NotOrdered>,
+}
+
+impl fmt::Display for OrderTold {
+    fn fmt<W: fmt::Write>(&self, f: &mut fmt::Formatter<W>) -> fmt::Result {
+        let core = self.core;
+        match self.told {
+            Ok(count) => {
+                let trials = Counted {
+                    count,
+                    word: "trial",
+                };
+                write!(f, "Core {core} was ordered in {trials}")
+            }
+            Err(NotOrdered::NoOrder(NoOrder { trials, unplaced })) => write!(
+                f,
+                "No order of core {core} passes: {trials} trials, {unplaced} tasks unplaced"
+            ),
+            Err(NotOrdered::CoreLacking) => write!(f, "The board has no core {core}"),
         }
     }
-    for core in 0..board.cores {
-        if marks[core as usize].is_standing() {
-            println!(rt; "Core {core} is standing")?;
-        } else {
-            println!(rt; "Core {core} is loose")?;
+}
+
+// What each ordering answered, a line each.
+#[derive(Clone, Copy)]
+struct OrdersTold<'a>(&'a [Option<Answer>]);
+
+impl fmt::Display for OrdersTold<'_> {
+    fn fmt<W: fmt::Write>(&self, f: &mut fmt::Formatter<W>) -> fmt::Result {
+        for (core, answer) in self.0.iter().enumerate() {
+            if let Some(Answer::Ordered(told)) = *answer {
+                write!(f, "\n{}", OrderTold { core, told })?;
+            }
+        }
+        Ok(())
+    }
+}
+
+#[derive(Clone, Copy)]
+struct MarksTold<'a>(&'a [Mark]);
+
+impl fmt::Display for MarksTold<'_> {
+    fn fmt<W: fmt::Write>(&self, f: &mut fmt::Formatter<W>) -> fmt::Result {
+        for (core, mark) in self.0.iter().enumerate() {
+            let state = if mark.is_standing() {
+                "standing"
+            } else {
+                "loose"
+            };
+            write!(f, "\nCore {core} is {state}")?;
+        }
+        Ok(())
+    }
+}
+
+// The answers of the load and of the orderings, and then the marks of the cores that were ordered.
+#[derive(Clone, Copy)]
+pub(crate) struct CallsTold<'a> {
+    pub(crate) answers: &'a [Option<Answer>],
+    pub(crate) marks: &'a [Mark],
+}
+
+impl fmt::Display for CallsTold<'_> {
+    fn fmt<W: fmt::Write>(&self, f: &mut fmt::Formatter<W>) -> fmt::Result {
+        match self.answers {
+            [load, orders @ ..] => {
+                let load = LoadTold(*load);
+                let orders = OrdersTold(orders);
+                let marks = MarksTold(self.marks);
+                write!(f, "{load}{orders}{marks}")
+            }
+            [] => Ok(()),
         }
     }
-    Ok(())
 }

@@ -4,23 +4,22 @@
 #![tactic(auto)]
 
 mod calls;
-mod filed;
 mod protocol;
-mod tables;
 
 use bounds::deadline::Deadline;
-use calls::show_calls;
-use filed::show_file;
-use promise::call::{Answer, Call};
+use calls::CallsTold;
+use promise::call::Call;
 use promise::run::run;
 use protocol::show_report;
-use std::io;
 use std::io::Read;
+use std::{array, io};
 use table::board::Board;
 use table::refusal::Refusal;
 use table::row::Row;
 use tablefile::checking::check_length;
-use tables::{show_board, show_tasks};
+use telling::board::BoardTold;
+use telling::file::FileTold;
+use telling::tasks::TasksTold;
 
 // The board that the first block of a file states.
 fn board_of(bytes: &[u8]) -> Result<Board, Refusal> {
@@ -32,33 +31,31 @@ fn board_of(bytes: &[u8]) -> Result<Board, Refusal> {
 }
 
 fn show_refusal(rt: &HostRuntime, refusal: Refusal) -> io::Result<()> {
-    let number = refusal.number();
-    println!(rt; "The file is refused: {number}")
+    println!(rt; "The file is refused: {refusal}")
 }
 
 // Loads the file, orders each core by rising number, and tells what came of it.
-fn walk(rt: &HostRuntime, board: Board, bytes: &[u8]) -> io::Result<()> {
+fn walk(rt: &HostRuntime, board: &Board, bytes: &[u8]) -> io::Result<()> {
     let mut rows = [Row::EMPTY; 64];
-    let mut answers = [Answer::Unasked; 9];
-    let calls = [
-        Call::Load(bytes),
-        Call::Order(0),
-        Call::Order(1),
-        Call::Order(2),
-        Call::Order(3),
-        Call::Order(4),
-        Call::Order(5),
-        Call::Order(6),
-        Call::Order(7),
-    ];
-    let made = &calls[0..board.cores as usize + 1];
-    match run(board, &mut rows, &Deadline, made, &mut answers) {
+    let mut answers = [None; 9];
+    let mut calls = [Call::Load(bytes); 9];
+    for (call, core) in calls.iter_mut().skip(1).zip(0..) {
+        *call = Call::Order(core);
+    }
+    let cores = usize::from(board.cores);
+    let made = &calls[..=cores];
+    match run(*board, &mut rows, &Deadline, made, &mut answers) {
         Ok(marks) => {
-            show_board(rt, &board)?;
-            show_calls(rt, &board, &answers, &marks)?;
-            show_tasks(rt, &board, &rows)?;
-            show_file(rt, &board, &rows)?;
-            show_report(rt, board, bytes)
+            let calls = CallsTold {
+                answers: &answers[..=cores],
+                marks: &marks[..cores],
+            };
+            let rows = &rows;
+            println!(rt; "{}\n", BoardTold(board))?;
+            println!(rt; "{calls}\n")?;
+            println!(rt; "{}\n", TasksTold { board, rows })?;
+            println!(rt; "{}\n", FileTold { board, rows })?;
+            show_report(rt, *board, bytes)
         }
         Err(refusal) => show_refusal(rt, refusal),
     }
@@ -69,7 +66,7 @@ fn main(rt: HostRuntime) -> io::Result<()> {
     rt.stdin().read_to_end(&mut file)?;
     let bytes = file.as_slice();
     match board_of(bytes) {
-        Ok(board) => walk(&rt, board, bytes),
+        Ok(board) => walk(&rt, &board, bytes),
         Err(refusal) => show_refusal(&rt, refusal),
     }
 }

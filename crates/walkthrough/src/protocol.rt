@@ -32,24 +32,18 @@ fn load_and_report(board: Board, bytes: &[u8], out: &mut [u8]) -> Result<usize, 
     let mut open = closed.reopen();
     let entered = open.enter(&ONE_MORE);
     let last = open.close();
-    match entered {
-        Ok(()) => report(&last, &Deadline, out),
-        Err(refusal) => Err(refusal),
-    }
+    entered?;
+    report(&last, &Deadline, out)
 }
 
 // Nothing was judged or ordered, so every core is loose.
 pub(crate) fn show_report(rt: &HostRuntime, board: Board, bytes: &[u8]) -> io::Result<()> {
     let mut out = [0u8; 4096];
-    println!(rt)?;
     match load_and_report(board, bytes, &mut out) {
         Ok(size) => {
             println!(rt; "The report of the table as it was loaded, with one task more")?;
-            rt.stdout().write_all(&out[0..size.min(4096)])
+            rt.stdout().write_all(&out[..size.min(4096)])
         }
-        Err(refusal) => {
-            let number = refusal.number();
-            println!(rt; "No task can be entered as number 0: refused {number}")
-        }
+        Err(refusal) => println!(rt; "No task can be entered as number 0: refused {refusal}"),
     }
 }
