@@ -1,6 +1,6 @@
 // Whether a sheet is as its model says: every row, and every mark.
 use crate::model::Model;
-use crate::naive::Kind;
+use naive::recurrence::Kind;
 use sheet::marks::Mark;
 use table::row::Row;
 

@@ -1,6 +1,6 @@
 // How many calls of each kind were compared, and how often each refusal was met.
 use crate::answers::Answer;
-use crate::tally::Tally;
+use naive::tally::Tally;
 use std::io;
 
 // The kinds of calls on a sheet.
@@ -35,16 +35,16 @@ pub(crate) struct Counts {
 impl Counts {
     pub(crate) fn new() -> Counts {
         Counts {
-            openings: Tally::new(),
-            closings: Tally::new(),
-            enters: Tally::new(),
-            withdrawals: Tally::new(),
-            amendments: Tally::new(),
-            loads: Tally::new(),
-            judgings: Tally::new(),
-            orderings: Tally::new(),
-            bounds: Tally::new(),
-            settlings: Tally::new(),
+            openings: Tally::default(),
+            closings: Tally::default(),
+            enters: Tally::default(),
+            withdrawals: Tally::default(),
+            amendments: Tally::default(),
+            loads: Tally::default(),
+            judgings: Tally::default(),
+            orderings: Tally::default(),
+            bounds: Tally::default(),
+            settlings: Tally::default(),
             refusals: [0; 15],
         }
     }
@@ -78,6 +78,10 @@ impl Counts {
         }
     }
 
+    fn show_tally(&self, rt: &HostRuntime, name: &str, tally: &Tally) -> io::Result<()> {
+        println!(rt; "{name} {tally}")
+    }
+
     fn show_refusals(&self, rt: &HostRuntime) -> io::Result<()> {
         print!(rt; "refusals")?;
         for number in 2..15usize {
@@ -89,16 +93,16 @@ impl Counts {
     }
 
     pub(crate) fn show(&self, rt: &HostRuntime) -> io::Result<()> {
-        self.openings.show(rt, "openings")?;
-        self.closings.show(rt, "closings")?;
-        self.enters.show(rt, "enters")?;
-        self.withdrawals.show(rt, "withdrawals")?;
-        self.amendments.show(rt, "amendments")?;
-        self.loads.show(rt, "loads")?;
-        self.judgings.show(rt, "judgings")?;
-        self.orderings.show(rt, "orderings")?;
-        self.bounds.show(rt, "sheet bounds")?;
-        self.settlings.show(rt, "sheet settlings")?;
+        self.show_tally(rt, "openings", &self.openings)?;
+        self.show_tally(rt, "closings", &self.closings)?;
+        self.show_tally(rt, "enters", &self.enters)?;
+        self.show_tally(rt, "withdrawals", &self.withdrawals)?;
+        self.show_tally(rt, "amendments", &self.amendments)?;
+        self.show_tally(rt, "loads", &self.loads)?;
+        self.show_tally(rt, "judgings", &self.judgings)?;
+        self.show_tally(rt, "orderings", &self.orderings)?;
+        self.show_tally(rt, "sheet bounds", &self.bounds)?;
+        self.show_tally(rt, "sheet settlings", &self.settlings)?;
         self.show_refusals(rt)
     }
 }

@@ -1,6 +1,6 @@
 // Damage to a file: to its length, to a byte, or to a field of a block whose check is made good.
 use crate::making::{File, ROOM};
-use crate::random::Random;
+use naive::random::Random;
 
 // A block of the file.
 fn draw_block(random: &mut Random, file: &File) -> usize {

@@ -1,7 +1,7 @@
 // Random calls on a sheet: mostly such as are accepted, and now and then one with any fault.
 use crate::model::{Amounts, Draft, Filed, Model};
-use crate::naive::Kind;
-use crate::random::Random;
+use naive::random::Random;
+use naive::recurrence::Kind;
 
 // How the calls on one sheet are drawn.
 #[derive(Clone, Copy)]

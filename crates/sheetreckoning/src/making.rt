@@ -2,8 +2,8 @@
 use crate::answers::Answer;
 use crate::drafts::Habit;
 use crate::model::{Draft, Model};
-use crate::random::Random;
-use crate::{damage, drafts, files};
+use crate::{damage, drafts};
+use naive::random::Random;
 
 // One block more than a file may have.
 pub(crate) const ROOM: usize = 33_280;
@@ -33,8 +33,8 @@ impl File {
         for k in 0..510 {
             sum = sum.saturating_add(self.get(start.saturating_add(k)) as u32);
         }
-        self.put(start.saturating_add(510), files::digit(sum, 2));
-        self.put(start.saturating_add(511), files::digit(sum, 3));
+        self.put(start.saturating_add(510), sum.to_be_bytes()[2]);
+        self.put(start.saturating_add(511), sum.to_be_bytes()[3]);
     }
 }
 
@@ -57,7 +57,7 @@ fn write_record(file: &mut File, at: usize, draft: &Draft) {
     for k in 0..11 {
         for digit in 0..4 {
             let place = at.saturating_add(4 + 4 * k + digit);
-            file.put(place, files::digit(words[k], digit));
+            file.put(place, words[k].to_be_bytes()[digit]);
         }
     }
 }

@@ -1,6 +1,6 @@
 // The sheet a second time, kept in another way: a slot for each number, with a task or none, and
 // for each core the test by which it stands, or none.
-use crate::naive::Kind;
+use naive::recurrence::Kind;
 use table::board::Board;
 use table::row::{Figures, Row};
 

@@ -2,8 +2,9 @@
 use crate::calls::Beside;
 use crate::counts::Counts;
 use crate::model::Model;
-use crate::random::Random;
-use crate::{calls, drafts, tables};
+use crate::{calls, drafts};
+use naive::random::Random;
+use naive::tables;
 use sheet::open::OpenSheet;
 use table::row::Row;
 

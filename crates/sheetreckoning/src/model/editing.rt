@@ -2,7 +2,7 @@
 // checks is told, so they are looked at from the last to the first.
 use crate::answers::Answer;
 use crate::model::{Amounts, Draft, Filed, Model};
-use crate::naive::Kind;
+use naive::recurrence::Kind;
 
 fn is_amount(n: u32) -> bool {
     n < 10_000_001

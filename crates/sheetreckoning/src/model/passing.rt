@@ -1,10 +1,10 @@
 // Judging, ordering, bounds and settling, over the naive recurrences.
 use crate::answers::Answer;
 use crate::model::{Filed, Model, blank};
-use crate::naive::{Kind, Question};
-use crate::numbers::Numbers;
-use crate::settled::Ended;
-use crate::{naive, settled};
+use naive::numbers::Numbers;
+use naive::recurrence::{Kind, Question};
+use naive::rounds::Unsettled;
+use naive::{recurrence, rounds};
 use table::row::Row;
 
 impl Model {
@@ -26,14 +26,14 @@ impl Model {
             rows: &rows[0..self.capacity.min(64)],
             number,
             above,
-            ahead: naive::deadlines(&rows),
+            ahead: recurrence::deadlines(&rows),
         };
-        naive::bound(&question)
+        question.bound()
     }
 
     // The bound of a task under the present ranks.
     fn present(&self, kind: Kind, number: usize) -> Option<u32> {
-        self.reckon(kind, number, naive::above(&self.rows(), number))
+        self.reckon(kind, number, recurrence::above(&self.rows(), number))
     }
 
     fn set_stand(&mut self, core: u8, kind: Kind) {
@@ -136,17 +136,17 @@ impl Model {
             return Answer::Refused(14);
         }
         let rows = self.rows();
-        match settled::settle(&self.board, &rows[0..self.capacity.min(64)]) {
-            Ended::Settled(list, round) => {
+        match rounds::settle(&self.board, &rows[0..self.capacity.min(64)]) {
+            Ok(settled) => {
                 for k in 0..64 {
                     if k < self.capacity && k < times.len() {
-                        times[k] = list[k];
+                        times[k] = settled.bounds[k];
                     }
                 }
-                Answer::Told(round)
+                Answer::Told(settled.round)
             }
-            Ended::Unbounded(task, round) => Answer::Unsettled(13, task, round),
-            Ended::Never => Answer::Open,
+            Err(Unsettled::Unbounded { task, round }) => Answer::Unsettled(13, task, round),
+            Err(Unsettled::Open) => Answer::Open,
         }
     }
 }

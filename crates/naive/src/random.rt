@@ -2,12 +2,12 @@
 ghost use Rattle.std.specs.Prelude.{◌-◌, ◌≤◌};
 
 #[derive(Clone, Copy)]
-pub(crate) struct Random {
+pub struct Random {
     state: u64,
 }
 
 impl Random {
-    pub(crate) fn new(seed: u64) -> Random {
+    pub fn new(seed: u64) -> Random {
         Random { state: seed }
     }
 
@@ -19,23 +19,23 @@ impl Random {
     }
 
     // A number below a bound, or 0 where the bound is 0.
-    pub(crate) fn below(&mut self, bound: u32) -> u32
+    pub fn below(&mut self, bound: u32) -> u32
         ensures { result ≤ bound - 1 }
     {
         let drawn = self.next();
         if bound == 0 {
             return 0;
         }
-        (drawn % bound as u64) as u32
+        (drawn % u64::from(bound)) as u32
     }
 
     // A number from 1 to a limit.
-    pub(crate) fn up_to(&mut self, limit: u32) -> u32 {
+    pub fn up_to(&mut self, limit: u32) -> u32 {
         self.below(limit).saturating_add(1)
     }
 
     // One time in so many.
-    pub(crate) fn one_in(&mut self, n: u32) -> bool {
+    pub fn one_in(&mut self, n: u32) -> bool {
         self.below(n) == 0
     }
 }

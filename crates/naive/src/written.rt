@@ -1,10 +1,10 @@
 // What the analyser writes beside the file reckoned byte by byte.
 use crate::files;
-use crate::files::Listed;
+use crate::files::Filed;
 use crate::random::Random;
 use crate::tables::Table;
 use crate::tally::Tally;
-use table::board::Board;
+use table::refusal::Refusal;
 use tablefile::writing::write_file;
 
 const ROOM: usize = 3600;
@@ -13,19 +13,11 @@ const ROOM: usize = 3600;
 const BEFORE: u8 = 0xa5;
 
 // The first `size` bytes are the file's, and the others are as before.
-fn same_bytes(board: &Board, listed: &Listed, size: usize, out: &[u8]) -> bool {
-    let mut same = true;
-    for (k, found) in out.iter().enumerate() {
-        let expected = if k < size {
-            files::byte(board, listed, k)
-        } else {
-            BEFORE
-        };
-        if *found != expected {
-            same = false;
-        }
-    }
-    same
+fn is_written(file: &Filed<'_>, size: usize, out: &[u8]) -> bool {
+    out.iter().enumerate().all(|(k, found)| {
+        let expected = if k < size { file.byte(k) } else { BEFORE };
+        *found == expected
+    })
 }
 
 // One time in four the buffer may be too short.
@@ -38,19 +30,17 @@ fn draw_room(random: &mut Random) -> usize {
 }
 
 fn compare_file(tally: &mut Tally, table: &Table, out: &mut [u8]) {
-    let board = &table.board;
-    let rows = &table.rows[0..table.count];
-    let listed = files::list(rows);
-    let size = files::size(&listed);
+    let file = files::file_of(&table.board, table.rows());
+    let size = file.size();
     let room = out.len();
-    match write_file(board, rows, out) {
+    match write_file(&table.board, table.rows(), out) {
         Ok(told) => tally.note(
             true,
-            told == size && size <= room && same_bytes(board, &listed, size, out),
+            told == size && size <= room && is_written(&file, size, out),
         ),
         Err(refusal) => tally.note(
             false,
-            refusal.number() == 14 && room < size && same_bytes(board, &listed, 0, out),
+            refusal == Refusal::BufferTooShort && room < size && is_written(&file, 0, out),
         ),
     }
 }
@@ -58,5 +48,5 @@ fn compare_file(tally: &mut Tally, table: &Table, out: &mut [u8]) {
 pub(crate) fn file(tally: &mut Tally, random: &mut Random, table: &Table) {
     let room = draw_room(random).min(ROOM);
     let mut out = [BEFORE; ROOM];
-    compare_file(tally, table, &mut out[0..room]);
+    compare_file(tally, table, &mut out[..room]);
 }

@@ -4,6 +4,7 @@ ghost use Rattle.std.specs.Prelude.{◌≤◌};
 
 use crate::numbers::Numbers;
 use crate::random::Random;
+use std::array;
 use table::board::Board;
 use table::row::{Figures, Row};
 
@@ -18,16 +19,13 @@ struct Shape {
 }
 
 // A board with at most so many cores.
-pub(crate) fn draw_board(random: &mut Random, most: u8) -> Board {
+pub fn draw_board(random: &mut Random, most: u8) -> Board {
     let cores = 1 + random.below(u32::from(most)) as u8;
     let resources = random.below(5) as u8;
-    match Board::new(cores, resources) {
-        Ok(board) => board,
-        Err(_) => Board {
-            cores: 1,
-            resources: 0,
-        },
-    }
+    Board::new(cores, resources).unwrap_or(Board {
+        cores: 1,
+        resources: 0,
+    })
 }
 
 fn draw_shape(random: &mut Random) -> Shape
@@ -45,13 +43,8 @@ fn draw_shape(random: &mut Random) -> Shape
     }
 }
 
-fn four(random: &mut Random, bound: u32) -> [u32; 4] {
-    [
-        random.below(bound),
-        random.below(bound),
-        random.below(bound),
-        random.below(bound),
-    ]
+fn draw_four(random: &mut Random, bound: u32) -> [u32; 4] {
+    array::from_fn(|_| random.below(bound))
 }
 
 fn draw_figures(random: &mut Random, shape: &Shape) -> Figures {
@@ -60,12 +53,12 @@ fn draw_figures(random: &mut Random, shape: &Shape) -> Figures {
         cost: random.up_to(shape.heaviest),
         period,
         deadline: random.up_to(period),
-        sensitivity: four(random, shape.heaviest),
-        stress: four(random, shape.heaviest),
+        sensitivity: draw_four(random, shape.heaviest),
+        stress: draw_four(random, shape.heaviest),
     }
 }
 
-// A row that breaks one limit.
+// Figures that break one limit.
 fn broken(random: &mut Random, figures: Figures) -> Figures {
     match random.below(6) {
         0 => Figures { cost: 0, ..figures },
@@ -108,35 +101,34 @@ fn draw_row(random: &mut Random, shape: &Shape) -> Row {
     }
 }
 
-// A random board, and the first `count` of these rows.
+// A random board, and a list of rows of which the first `count` are the table's.
 #[derive(Clone, Copy)]
-pub(crate) struct Table {
-    pub(crate) board: Board,
-    pub(crate) rows: [Row; 70],
-    pub(crate) count: usize,
+pub struct Table {
+    pub board: Board,
+    // All are drawn, whatever the count: a list that is lent to a sheet holds them all.
+    pub rows: [Row; 70],
+    pub count: usize,
     ghost few: { count ≤ 70 },
 }
 
-pub(crate) fn draw_table(random: &mut Random) -> Table {
+impl Table {
+    pub fn rows(&self) -> &[Row] {
+        &self.rows[..self.count]
+    }
+}
+
+pub fn draw_table(random: &mut Random) -> Table {
     let board = draw_board(random, 4);
     let shape = draw_shape(random);
-    let mut rows = [Row::EMPTY; 70];
-    for k in 0..70 {
-        rows[k] = draw_row(random, &shape);
-    }
     Table {
         board,
-        rows,
+        rows: array::from_fn(|_| draw_row(random, &shape)),
         count: shape.rows,
     }
 }
 
 pub(crate) fn draw_set(random: &mut Random) -> Numbers {
-    let mut all = Numbers::NONE;
-    for k in 0..64 {
-        if random.one_in(2) {
-            all.put(k);
-        }
+    Numbers {
+        flags: array::from_fn(|_| random.one_in(2)),
     }
-    all
 }
