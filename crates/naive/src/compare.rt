@@ -1,4 +1,7 @@
 // The analyser's answers beside the naive ones, over random tables.
+ghost use Rattle.naive.specs.Tallies.{all_shown, one_more};
+ghost use Rattle.std.specs.Prelude.{◌≡◌, true, Some};
+
 use crate::numbers::Numbers;
 use crate::orders::Order;
 use crate::random::Random;
@@ -85,7 +88,9 @@ fn one_order(tally: &mut Tally, table: &Table, core: u8) {
     tally.note(own.is_ok(), is_same_order(&own, &own_too));
 }
 
-fn settling(tally: &mut Tally, table: &Table) {
+fn settling(tally: &mut Tally, table: &Table)
+    ensures { tally.new.questions ≡ one_more tally.old.questions true }
+{
     let expected = rounds::settle(&table.board, table.rows());
     match respond(&table.board, table.rows()) {
         Ok(settled) => {
@@ -101,23 +106,41 @@ fn settling(tally: &mut Tally, table: &Table) {
     }
 }
 
-// Tables of a seed, so many: every question of each is answered both ways.
-pub fn compare_tables(seed: u64, tables: u32) -> Compared {
+// Every core that a table may have.
+fn all_orders(tally: &mut Tally, table: &Table) {
+    for core in 0..4 {
+        one_order(tally, table, core);
+    }
+}
+
+// Every question of a random table.
+fn one_table(compared: &mut Compared, random: &mut Random)
+    ensures settlings { compared.new.settlings.questions ≡ one_more compared.old.settlings.questions true }
+    ensures files { compared.new.files.questions ≡ one_more compared.old.files.questions true }
+{
+    let table = tables::draw_table(random);
+    all_bounds(&mut compared.bounds, random, &table);
+    all_orders(&mut compared.orders, &table);
+    settling(&mut compared.settlings, &table);
+    written::file(&mut compared.files, random, &table);
+}
+
+// So many random tables from a seed: every question of each, answered both ways.
+pub fn compare_tables(seed: u64, tables: u32) -> Compared
+    ensures settlings { result.settlings.questions ≡ tables }
+    ensures files { result.files.questions ≡ tables }
+{
     let mut random = Random::new(seed);
     let mut compared = Compared::default();
     for _ in 0..tables {
-        let table = tables::draw_table(&mut random);
-        all_bounds(&mut compared.bounds, &mut random, &table);
-        for core in 0..4 {
-            one_order(&mut compared.orders, &table, core);
-        }
-        settling(&mut compared.settlings, &table);
-        written::file(&mut compared.files, &mut random, &table);
+        one_table(&mut compared, &mut random);
     }
     compared
 }
 
 impl fmt::Display for Compared {
+    ghost output = { λ compared. Some (all_shown compared) };
+
     fn fmt<W: fmt::Write>(&self, f: &mut fmt::Formatter<W>) -> fmt::Result {
         let Compared {
             bounds,
@@ -125,9 +148,9 @@ impl fmt::Display for Compared {
             settlings,
             files,
         } = *self;
-        writeln!(f, "bounds {bounds}")?;
-        writeln!(f, "orders {orders}")?;
-        writeln!(f, "settlings {settlings}")?;
-        writeln!(f, "files {files}")
+        write!(
+            f,
+            "bounds {bounds}\norders {orders}\nsettlings {settlings}\nfiles {files}\n"
+        )
     }
 }

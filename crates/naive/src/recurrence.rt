@@ -1,6 +1,11 @@
 // The recurrences, reckoned as they are told: every window from 1 up to the deadline is tried, and
 // every sum is taken anew over the whole list.
-ghost use Rattle.std.specs.Prelude.{◌<◌};
+ghost use Rattle.naive.specs.Answers.{CanBeBound, deadline_at, is_above, ranked_above, task_at};
+ghost use Rattle.naive.specs.Sets.{members};
+ghost use Rattle.std.specs.List.{range_with_len};
+ghost use Rattle.std.specs.Prelude.{◌≡◌, ◌<◌, ◌≤◌, IfSome, map};
+ghost use Rattle.table.specs.Limits.{all_small, small};
+ghost use Rattle.table.specs.Rows.{holds_task};
 
 use crate::numbers::Numbers;
 use std::array;
@@ -24,29 +29,45 @@ pub struct Question<'a> {
     pub ahead: [u32; 64],
 }
 
-fn is_small(n: u32) -> bool {
+fn is_small(n: u32) -> bool
+    ensures { result ≡ small n }
+{
     n <= 10_000_000
 }
 
-fn are_small(xs: &[u32; 4]) -> bool {
+fn are_small(xs: &[u32; 4]) -> bool
+    ensures { result ≡ all_small xs.now }
+{
     let [a, b, c, d] = *xs;
     is_small(a) && is_small(b) && is_small(c) && is_small(d)
 }
 
-fn holds_task(row: &Row) -> bool {
+fn holds_task(row: &Row) -> bool
+    ensures { result ≡ holds_task row.now }
+{
     let f = row.figures;
-    let times = f.period > 0 && is_small(f.period) && f.deadline > 0 && !(f.deadline > f.period);
-    let own = f.cost > 0 && is_small(f.cost);
-    row.used && times && own && are_small(&f.sensitivity) && are_small(&f.stress)
+    let limits = (f.period > 0)
+        & is_small(f.period)
+        & (f.deadline > 0)
+        & (f.deadline <= f.period)
+        & (f.cost > 0)
+        & is_small(f.cost)
+        & are_small(&f.sensitivity)
+        & are_small(&f.stress);
+    row.used & limits
 }
 
 // The row of a number that has a task: none past 63, in an unused row or in one that breaks a limit.
-pub(crate) fn task(rows: &[Row], number: usize) -> Option<Row> {
-    let row = rows.get(number)?;
-    if number > 63 || !holds_task(row) {
+pub(crate) fn task(rows: &[Row], number: usize) -> Option<Row>
+    ensures { result ≡ task_at rows.now number }
+{
+    let Some(row) = rows.get(number) else {
+        return None;
+    };
+    if number > 63 {
         return None;
     }
-    Some(*row)
+    if holds_task(row) { Some(*row) } else { None }
 }
 
 // How many releases a window holds.
@@ -130,25 +151,60 @@ impl Question<'_> {
             .fold(own, |sum: u64, part| sum.saturating_add(part))
     }
 
-    pub fn bound(&self) -> Option<u32> {
-        let me = task(self.rows, self.number).filter(|me| me.core < self.board.cores)?;
-        (1..=me.figures.deadline).find(|t| self.right_side(&me, u64::from(*t)) == u64::from(*t))
+    // The first window up to the deadline that the right side gives again.
+    fn first_window(&self, me: &Row) -> Option<u32>
+        ensures { IfSome result (λ t. (1 ≤ t) × (t ≤ me.now.figures.deadline)) }
+    {
+        (1..=me.figures.deadline).find(|t| self.right_side(me, u64::from(*t)) == u64::from(*t))
+    }
+
+    // The bound of the task.
+    pub fn bound(&self) -> Option<u32>
+        ensures answer { CanBeBound self.now.board self.now.rows.now self.now.number result }
+    {
+        let me = task(self.rows, self.number)?;
+        if me.core < self.board.cores {
+            self.first_window(&me)
+        } else {
+            None
+        }
+    }
+}
+
+// Whether a number has a task of the core of another one, with a smaller rank number.
+fn is_ranked_above(rows: &[Row], me: &Row, number: usize) -> bool
+    ensures { result ≡ is_above rows.now me.now number }
+{
+    match task(rows, number) {
+        Some(other) => (other.core == me.core) & (other.rank < me.rank),
+        None => false,
     }
 }
 
 // The tasks of the same core with a smaller rank number; none above a number without a task.
-pub fn above(rows: &[Row], number: usize) -> Numbers {
+pub fn above(rows: &[Row], number: usize) -> Numbers
+    ensures answer { members result ≡ ranked_above rows.now number }
+{
     match task(rows, number) {
         Some(me) => Numbers {
-            flags: array::from_fn(|j| {
-                task(rows, j).is_some_and(|other| other.core == me.core && other.rank < me.rank)
-            }),
+            flags: array::from_fn(|j| is_ranked_above(rows, &me, j)),
         },
         None => Numbers::NONE,
     }
 }
 
+fn deadline_of(rows: &[Row], number: usize) -> u32
+    ensures { result ≡ deadline_at rows.now number }
+{
+    match task(rows, number) {
+        Some(row) => row.figures.deadline,
+        None => 0,
+    }
+}
+
 // The deadlines, by number.
-pub fn deadlines(rows: &[Row]) -> [u32; 64] {
-    array::from_fn(|k| task(rows, k).map_or(0, |row| row.figures.deadline))
+pub fn deadlines(rows: &[Row]) -> [u32; 64]
+    ensures answer { result ≡ map (deadline_at rows.now) (range_with_len 0 64) }
+{
+    array::from_fn(|k| deadline_of(rows, k))
 }

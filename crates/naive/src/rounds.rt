@@ -1,4 +1,9 @@
 // The response test, round by round, each reckoned anew.
+ghost use Rattle.naive.specs.Rounds.{AreEntries, Ends, IsEntry};
+ghost use Rattle.std.specs.Option.{is_some};
+ghost use Rattle.std.specs.Prelude.{◌≡◌, true, IfErr, IfOk};
+ghost use Rattle.table.specs.Rows.{on_board};
+
 use crate::recurrence;
 use crate::recurrence::{Kind, Question, task};
 use std::array;
@@ -24,8 +29,17 @@ pub enum Unsettled {
 }
 
 // The row of a number that has a task on the board.
-fn task_on(board: &Board, rows: &[Row], number: usize) -> Option<Row> {
-    task(rows, number).filter(|row| row.core < board.cores)
+fn task_on(board: &Board, rows: &[Row], number: usize) -> Option<Row>
+    ensures { is_some result ≡ on_board board.now rows.now number }
+{
+    let Some(row) = task(rows, number) else {
+        return None;
+    };
+    if row.core < board.cores {
+        Some(row)
+    } else {
+        None
+    }
 }
 
 // C of each task of the board, and 0 for the other numbers.
@@ -33,9 +47,11 @@ fn start(board: &Board, rows: &[Row]) -> [u32; 64] {
     array::from_fn(|k| task_on(board, rows, k).map_or(0, |row| row.figures.cost))
 }
 
-// The next bound of a number, and 0 where it has no task of the board; or the number, if it is a
-// task without a bound.
-fn next_bound(board: &Board, rows: &[Row], list: &[u32; 64], number: usize) -> Result<u32, usize> {
+// The next entry of a number; or the number, if it is a task without a bound.
+fn next_entry(board: &Board, rows: &[Row], list: &[u32; 64], number: usize) -> Result<u32, usize>
+    ensures entry { IfOk result (λ t. IsEntry board.now rows.now number t) }
+    ensures unbounded { IfErr result (λ task. on_board board.now rows.now task ≡ true) }
+{
     if task_on(board, rows, number).is_none() {
         return Ok(0);
     }
@@ -50,12 +66,23 @@ fn next_bound(board: &Board, rows: &[Row], list: &[u32; 64], number: usize) -> R
     question.bound().ok_or(number)
 }
 
-// The next list, or the smallest number without a bound.
-fn next(board: &Board, rows: &[Row], list: &[u32; 64]) -> Result<[u32; 64], usize> {
-    array::try_from_fn(|number| next_bound(board, rows, list, number))
+// The next list, or the smallest number without a bound. (What `try_from_fn` promises leaves open
+// over which rows its closure was called.)
+fn next(board: &Board, rows: &[Row], list: &[u32; 64]) -> Result<[u32; 64], usize>
+    ensures entries { IfOk result (λ all. AreEntries board.now rows.now all 64) }
+    ensures unbounded { IfErr result (λ task. on_board board.now rows.now task ≡ true) }
+{
+    let mut all = [0; 64];
+    for (number, entry) in all.iter_mut().enumerate() {
+        *entry = next_entry(board, rows, list, number)?;
+    }
+    Ok(all)
 }
 
-pub fn settle(board: &Board, rows: &[Row]) -> Result<Settled, Unsettled> {
+// The rounds, until one gives its list again or a task has no bound.
+pub fn settle(board: &Board, rows: &[Row]) -> Result<Settled, Unsettled>
+    ensures answer { Ends board.now rows.now result }
+{
     let mut bounds = start(board, rows);
     for round in 1..=ROUNDS {
         let all = next(board, rows, &bounds).map_err(|task| Unsettled::Unbounded { task, round })?;

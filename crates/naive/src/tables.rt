@@ -1,6 +1,6 @@
 // Random boards, rows and sets: small figures, so that most questions are close, and now and then
 // rows that break a limit, lie past place 63 or name a core that the board lacks.
-ghost use Rattle.std.specs.Prelude.{◌≤◌};
+ghost use Rattle.std.specs.Prelude.{◌≡◌, ◌≤◌, max, take};
 
 use crate::numbers::Numbers;
 use crate::random::Random;
@@ -19,7 +19,9 @@ struct Shape {
 }
 
 // A board with at most so many cores.
-pub fn draw_board(random: &mut Random, most: u8) -> Board {
+pub fn draw_board(random: &mut Random, most: u8) -> Board
+    ensures few { result.cores ≤ max most 1 }
+{
     let cores = 1 + random.below(u32::from(most)) as u8;
     let resources = random.below(5) as u8;
     Board::new(cores, resources).unwrap_or(Board {
@@ -29,7 +31,8 @@ pub fn draw_board(random: &mut Random, most: u8) -> Board {
 }
 
 fn draw_shape(random: &mut Random) -> Shape
-    ensures { result.rows ≤ 70 }
+    ensures few { result.rows ≤ 70 }
+    ensures some { 1 ≤ result.rows }
 {
     let rows = if random.one_in(40) {
         60 + random.below(11)
@@ -112,12 +115,18 @@ pub struct Table {
 }
 
 impl Table {
-    pub fn rows(&self) -> &[Row] {
+    // The rows of the table.
+    pub fn rows(&self) -> &[Row]
+        ensures answer { result.now ≡ take self.now.count self.now.rows }
+    {
         &self.rows[..self.count]
     }
 }
 
-pub fn draw_table(random: &mut Random) -> Table {
+pub fn draw_table(random: &mut Random) -> Table
+    ensures cores { result.board.cores ≤ 4 }
+    ensures some { 1 ≤ result.count }
+{
     let board = draw_board(random, 4);
     let shape = draw_shape(random);
     Table {

@@ -1,4 +1,7 @@
 // What the analyser writes beside the file reckoned byte by byte.
+ghost use Rattle.naive.specs.Tallies.{one_more};
+ghost use Rattle.std.specs.Prelude.{◌≡◌, true};
+
 use crate::files;
 use crate::files::Filed;
 use crate::random::Random;
@@ -29,7 +32,9 @@ fn draw_room(random: &mut Random) -> usize {
     }
 }
 
-fn compare_file(tally: &mut Tally, table: &Table, out: &mut [u8]) {
+fn compare_file(tally: &mut Tally, table: &Table, out: &mut [u8])
+    ensures { tally.new.questions ≡ one_more tally.old.questions true }
+{
     let file = files::file_of(&table.board, table.rows());
     let size = file.size();
     let room = out.len();
@@ -45,7 +50,9 @@ fn compare_file(tally: &mut Tally, table: &Table, out: &mut [u8]) {
     }
 }
 
-pub(crate) fn file(tally: &mut Tally, random: &mut Random, table: &Table) {
+pub(crate) fn file(tally: &mut Tally, random: &mut Random, table: &Table)
+    ensures { tally.new.questions ≡ one_more tally.old.questions true }
+{
     let room = draw_room(random).min(ROOM);
     let mut out = [BEFORE; ROOM];
     compare_file(tally, table, &mut out[..room]);

@@ -1,6 +1,6 @@
 use Rattle.naive.proofs.Counts.{counted}
 use Rattle.naive.proofs.numbers.Numbers.count.Goals as goal
-use Rattle.std.proofs.Common.{◌≡◌, length, sym, ap, ◌∙◌, rules, arith}
+use Rattle.std.proofs.Common.{◌≡◌, sym, ap, ◌∙◌, rules, arith}
 use Rattle.std.proofs.lemmas.List.{take_all}
 use Rattle.std.specs.List.{count_by}
 
