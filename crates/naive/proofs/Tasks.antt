@@ -4,7 +4,7 @@ use Rattle.std.proofs.lemmas.Bool.{and_left, and_right, cases_Bool, cases_lt, co
 use Rattle.std.proofs.lemmas.List.{get_or_past}
 use Rattle.std.specs.Option.{IfSome, unwrap_or}
 use Rattle.naive.specs.Answers.{CanBeBound, is_above, ranked_above, task_at}
-use Rattle.table.proofs.Places.{no_task_from, no_task_outside, no_task_past, not_higher, off_board, off_cores, on_board_from, task_from}
+use Rattle.table.proofs.Places.{no_task_from, no_task_outside, no_task_past, not_higher, off_board, off_core, off_cores, on_board_from, task_from}
 use Rattle.table.specs.Ranks.{higher_ranked}
 use Rattle.table.specs.Rows.{holds_task, is_task, on_board, on_core, row_at}
 use Rattle.table.specs.declared.board.Board.{Board}
@@ -103,3 +103,14 @@ off_some board rows k row e l = sym (off_cores board rows k (subst (λ (x : Row)
 
 pub off_none : (board : Board) (rows : List Row) (k : ℕ) → task_at rows k ≡ None → false ≡ on_board board rows k
 off_none board rows k e = sym (off_board board rows k (no_task_is rows k e))
+
+-- on a core, or not
+
+pub core_some : (rows : List Row) (core k : ℕ) (row : Row) → task_at rows k ≡ Some row → nat_eq row.core core ≡ on_core rows core k
+unfolding on_core
+core_some rows core k row e =
+    let is = task_is rows k row e in
+    subst (λ b. nat_eq row.core core ≡ (b && nat_eq (row_at rows k).core core)) (sym is.0) (subst (λ (x : Row). nat_eq row.core core ≡ nat_eq x.core core) (sym is.1) refl)
+
+pub core_none : (rows : List Row) (core k : ℕ) → task_at rows k ≡ None → false ≡ on_core rows core k
+core_none rows core k e = sym (off_core rows core k (no_task_is rows k e))

@@ -76,7 +76,7 @@ fn is_same_order(found: &Result<Found, NoOrder>, expected: &Option<Order>) -> bo
 
 // One core under both tests, if it is small enough to try all orders.
 fn one_order(tally: &mut Tally, table: &Table, core: u8) {
-    let tasks = orders::tasks_of(table.rows(), core);
+    let tasks = recurrence::tasks_of(table.rows(), core);
     if tasks.count() > orders::MOST {
         return;
     }

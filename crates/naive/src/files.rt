@@ -1,5 +1,6 @@
 // The file of a table, each byte reckoned from its place alone.
-ghost use Rattle.std.specs.Prelude.{◌<◌, ◌≤◌};
+ghost use Rattle.naive.specs.Answers.{words_of};
+ghost use Rattle.std.specs.Prelude.{◌≡◌, ◌<◌, ◌≤◌};
 
 use crate::numbers::Numbers;
 use crate::recurrence::task;
@@ -26,7 +27,9 @@ pub(crate) fn file_of<'a>(board: &Board, rows: &'a [Row]) -> Filed<'a> {
 }
 
 // The fields of four bytes, in their order.
-fn words(figures: &Figures) -> [u32; 11] {
+pub fn words(figures: &Figures) -> [u32; 11]
+    ensures answer { result ≡ words_of figures.now }
+{
     let [x0, x1, x2, x3] = figures.sensitivity;
     let [y0, y1, y2, y3] = figures.stress;
     let Figures {

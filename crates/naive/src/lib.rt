@@ -17,7 +17,7 @@ pub mod rounds;
 // Orders, by trying them all.
 mod orders;
 // The file of a table, byte by byte.
-mod files;
+pub mod files;
 // Files, both ways.
 mod written;
 // Tables, both ways.

@@ -1,9 +1,8 @@
 // Every order of a core's tasks, tried one after the other, the earliest first.
 use crate::numbers::Numbers;
 use crate::recurrence;
-use crate::recurrence::{Kind, Question, task};
+use crate::recurrence::{Kind, Question};
 use arrayvec::ArrayVec;
-use std::array;
 use table::board::Board;
 use table::row::Row;
 
@@ -12,12 +11,6 @@ pub(crate) const MOST: usize = 5;
 
 // The numbers of an order, from the lowest place up.
 pub(crate) type Order = ArrayVec<usize, MOST>;
-
-pub(crate) fn tasks_of(rows: &[Row], core: u8) -> Numbers {
-    Numbers {
-        flags: array::from_fn(|k| task(rows, k).is_some_and(|row| row.core == core)),
-    }
-}
 
 fn factorial(n: usize) -> usize {
     (1..=n).fold(1, |all: usize, k| all.saturating_mul(k))

@@ -5,7 +5,7 @@ ghost use Rattle.naive.specs.Sets.{members};
 ghost use Rattle.std.specs.List.{range_with_len};
 ghost use Rattle.std.specs.Prelude.{◌≡◌, ◌<◌, ◌≤◌, IfSome, map};
 ghost use Rattle.table.specs.Limits.{all_small, small};
-ghost use Rattle.table.specs.Rows.{holds_task};
+ghost use Rattle.table.specs.Rows.{holds_task, on_core};
 
 use crate::numbers::Numbers;
 use std::array;
@@ -190,6 +190,25 @@ pub fn above(rows: &[Row], number: usize) -> Numbers
             flags: array::from_fn(|j| is_ranked_above(rows, &me, j)),
         },
         None => Numbers::NONE,
+    }
+}
+
+// Whether a number has a task of a core.
+fn is_task_of(rows: &[Row], core: u8, number: usize) -> bool
+    ensures { result ≡ on_core rows.now core number }
+{
+    match task(rows, number) {
+        Some(row) => row.core == core,
+        None => false,
+    }
+}
+
+// The tasks of a core.
+pub fn tasks_of(rows: &[Row], core: u8) -> Numbers
+    ensures answer { members result ≡ on_core rows.now core }
+{
+    Numbers {
+        flags: array::from_fn(|k| is_task_of(rows, core, k)),
     }
 }
 
