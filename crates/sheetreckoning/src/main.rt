@@ -12,8 +12,6 @@ use std::io;
 mod model;
 // What a call on a sheet answers.
 mod answers;
-// What the sheet answers, in the same words.
-mod told;
 // Random calls on a sheet.
 mod drafts;
 // Random files to load.
@@ -45,7 +43,7 @@ fn try_sheets(rt: &HostRuntime) -> io::Result<()> {
     let mut random = Random::new(20261118);
     let mut counts = Counts::new();
     for _ in 0..SHEETS {
-        sheets::one_sheet(&mut counts, &mut random);
+        sheets::one_sheet(rt.alloc(), &mut counts, &mut random)?;
     }
     println!(rt; "sheets {SHEETS}")?;
     counts.show(rt)
