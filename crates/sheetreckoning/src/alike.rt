@@ -1,6 +1,6 @@
 // Whether a sheet is as its model says: every row, and every mark.
 use crate::model::Model;
-use crate::naive::Kind;
+use naive::recurrence::Kind;
 use sheet::marks::Mark;
 use table::row::Row;
 
@@ -13,20 +13,20 @@ fn same_row(a: &Row, b: &Row) -> bool {
     places && times && f.sensitivity == g.sensitivity && f.stress == g.stress
 }
 
-// The first 64 rows are the model's, and those behind are as they were lent.
-pub(crate) fn same_rows(rows: &[Row], model: &Model, lent: &[Row]) -> bool {
-    let mut same = rows.len() == lent.len();
-    for (k, row) in rows.iter().enumerate() {
-        let expected = if k < 64 || k >= lent.len() {
-            model.row(k)
-        } else {
-            lent[k]
-        };
-        if !same_row(row, &expected) {
-            same = false;
-        }
+// Whether a row is the model's among the first 64, or as it was lent behind them.
+fn is_kept(model: &Model, lent: &[Row], k: usize, row: &Row) -> bool {
+    match lent.get(k) {
+        Some(old) if k >= 64 => same_row(row, old),
+        _ => same_row(row, &model.row(k)),
     }
-    same
+}
+
+pub(crate) fn same_rows(rows: &[Row], model: &Model, lent: &[Row]) -> bool {
+    rows.len() == lent.len()
+        && rows
+            .iter()
+            .enumerate()
+            .all(|(k, row)| is_kept(model, lent, k, row))
 }
 
 // The mark of a core that stands by a test, or by none.
@@ -39,13 +39,8 @@ fn mark_of(stand: Option<Kind>) -> Mark {
 }
 
 pub(crate) fn same_marks(marks: &[Mark; 8], model: &Model) -> bool {
-    let mut same = true;
-    for core in 0..8 {
-        let mark = marks[core];
+    marks.iter().enumerate().all(|(core, mark)| {
         let stand = model.stand(core);
-        if mark != mark_of(stand) || mark.is_standing() != stand.is_some() {
-            same = false;
-        }
-    }
-    same
+        *mark == mark_of(stand) && mark.is_standing() == stand.is_some()
+    })
 }

@@ -1,4 +1,19 @@
 // What a call on a sheet answers, with all that it tells.
+use bounds::response::Unsettled;
+use sheet::refused::{Layer, NotOrdered, NotPassing, Stopped};
+use table::refusal::Refusal;
+
+pub(crate) type Answer = Result<Told, Refused>;
+
+// What is told where the call is accepted.
+#[derive(Clone, Copy, PartialEq, Eq)]
+pub(crate) enum Told {
+    Nothing,
+    // A bound, a round or the trials.
+    Number(u32),
+    // The records that a load entered.
+    Entered(usize),
+}
 
 // Where a load met its refusal.
 #[derive(Clone, Copy, PartialEq, Eq)]
@@ -8,48 +23,139 @@ pub(crate) enum Part {
     Sheet,
 }
 
-// Where and why a load stopped.
+// What is told of a refusal.
 #[derive(Clone, Copy, PartialEq, Eq)]
-pub(crate) struct Stop {
-    pub(crate) part: Part,
-    pub(crate) cause: u8,
-    pub(crate) block: usize,
-    pub(crate) record: usize,
-    // The records that were entered before.
-    pub(crate) entered: usize,
-}
-
-// Each refusal with its number first.
-#[derive(Clone, Copy, PartialEq, Eq)]
-pub(crate) enum Answer {
-    // Accepted, and nothing is told.
-    Done,
-    // A bound, a round or the trials.
-    Told(u32),
-    // The records that a load entered.
-    Entered(usize),
-    Refused(u8),
-    // No bound: the task.
-    Unbound(u8, usize),
-    // No order: the trials, and the tasks that are still unplaced.
-    Unordered(u8, u32, usize),
-    // Not settled: the task, and the round.
-    Unsettled(u8, usize, u32),
-    Stopped(Stop),
+pub(crate) enum Detail {
+    Nothing,
+    // The task without a bound.
+    Unbound(usize),
+    // The trials, and the tasks that are still unplaced.
+    Unplaced {
+        trials: u32,
+        unplaced: usize,
+    },
+    // The task without a bound, and the round.
+    Unsettled {
+        task: usize,
+        round: u32,
+    },
+    // Where a load stopped, and the records that were entered before.
+    Stopped {
+        part: Part,
+        block: usize,
+        record: usize,
+        entered: usize,
+    },
     // No end was found in the rounds that were tried: equal to nothing that a sheet answers.
     Open,
 }
 
-impl Answer {
-    // The number of the refusal, or 0 where the call is accepted.
-    pub(crate) fn refusal(&self) -> u8 {
-        match self {
-            Answer::Refused(number) => *number,
-            Answer::Unbound(number, _) => *number,
-            Answer::Unordered(number, _, _) => *number,
-            Answer::Unsettled(number, _, _) => *number,
-            Answer::Stopped(stop) => stop.cause,
-            _ => 0,
+#[derive(Clone, Copy, PartialEq, Eq)]
+pub(crate) struct Refused {
+    pub(crate) refusal: Refusal,
+    pub(crate) detail: Detail,
+}
+
+impl From<()> for Told {
+    fn from(_nothing: ()) -> Told {
+        Told::Nothing
+    }
+}
+
+impl From<u32> for Told {
+    fn from(number: u32) -> Told {
+        Told::Number(number)
+    }
+}
+
+impl From<usize> for Told {
+    fn from(entered: usize) -> Told {
+        Told::Entered(entered)
+    }
+}
+
+impl From<Layer> for Part {
+    fn from(layer: Layer) -> Part {
+        match layer {
+            Layer::Block => Part::Block,
+            Layer::Row => Part::Figures,
+            Layer::Sheet => Part::Sheet,
         }
+    }
+}
+
+impl From<Refusal> for Refused {
+    fn from(refusal: Refusal) -> Refused {
+        Refused {
+            refusal,
+            detail: Detail::Nothing,
+        }
+    }
+}
+
+impl From<Stopped> for Refused {
+    fn from(stopped: Stopped) -> Refused {
+        Refused {
+            refusal: stopped.cause,
+            detail: Detail::Stopped {
+                part: Part::from(stopped.layer),
+                block: usize::from(stopped.block),
+                record: usize::from(stopped.record),
+                entered: stopped.entered,
+            },
+        }
+    }
+}
+
+impl From<NotPassing> for Refused {
+    fn from(refused: NotPassing) -> Refused {
+        let detail = match refused {
+            NotPassing::CoreLacking => Detail::Nothing,
+            NotPassing::NoBound(task) => Detail::Unbound(task),
+        };
+        Refused {
+            refusal: refused.refusal(),
+            detail,
+        }
+    }
+}
+
+impl From<NotOrdered> for Refused {
+    fn from(refused: NotOrdered) -> Refused {
+        let detail = match refused {
+            NotOrdered::CoreLacking => Detail::Nothing,
+            NotOrdered::NoOrder(none) => Detail::Unplaced {
+                trials: none.trials,
+                unplaced: none.unplaced,
+            },
+        };
+        Refused {
+            refusal: refused.refusal(),
+            detail,
+        }
+    }
+}
+
+impl From<Unsettled> for Refused {
+    fn from(refused: Unsettled) -> Refused {
+        let detail = match refused {
+            Unsettled::TooShort => Detail::Nothing,
+            Unsettled::NoBound(none) => Detail::Unsettled {
+                task: none.task,
+                round: none.round,
+            },
+        };
+        Refused {
+            refusal: refused.refusal(),
+            detail,
+        }
+    }
+}
+
+// What a sheet or its model answers, in the words that are compared.
+pub(crate) fn as_answer<T: Into<Told>, E: Into<Refused>>(answer: Result<T, E>) -> Answer {
+    match answer {
+        Ok(told) => Ok(told.into()),
+        Err(refused) => Err(refused.into()),
     }
 }

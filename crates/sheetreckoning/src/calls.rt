@@ -1,15 +1,17 @@
 // Calls on a sheet and on its model, side by side.
-use crate::answers::Answer;
+use crate::answers::{Answer, Detail, Refused, as_answer};
 use crate::counts::{Call, Counts};
 use crate::drafts::Habit;
 use crate::model::Model;
-use crate::naive::Kind;
-use crate::random::Random;
-use crate::{alike, drafts, making, told};
+use crate::{alike, drafts, making};
 use bounds::composable::Composable;
 use bounds::deadline::Deadline;
+use naive::random::Random;
+use naive::recurrence::Kind;
 use sheet::entry::Entry;
 use sheet::open::OpenSheet;
+use std::alloc::{AllocError, Global};
+use table::refusal::Refusal;
 use table::row::Row;
 use table::testing::Test;
 
@@ -37,19 +39,19 @@ fn enter(
         number: draft.number,
         core: draft.filed.core,
         rank: draft.filed.rank,
-        figures: draft.filed.amounts.handed(),
+        figures: draft.filed.figures,
     };
     (
-        told::edited(&sheet.enter(&entry)),
-        beside.model.enter(&draft),
+        as_answer(sheet.enter(&entry)),
+        as_answer(beside.model.enter(&draft)),
     )
 }
 
 fn withdraw(random: &mut Random, sheet: &mut OpenSheet<'_>, model: &mut Model) -> (Answer, Answer) {
     let number = drafts::draw_number(random, model, true);
     (
-        told::edited(&sheet.withdraw(number)),
-        model.withdraw(number),
+        as_answer(sheet.withdraw(number)),
+        as_answer(model.withdraw(number)),
     )
 }
 
@@ -59,21 +61,22 @@ fn amend(
     beside: &mut Beside<'_>,
 ) -> (Answer, Answer) {
     let number = drafts::draw_number(random, &beside.model, true);
-    let amounts = drafts::draw_amounts(random, &beside.habit, beside.model.board.resources);
+    let figures = drafts::draw_figures(random, &beside.habit, beside.model.board.resources);
     (
-        told::edited(&sheet.amend(number, &amounts.handed())),
-        beside.model.amend(number, &amounts),
+        as_answer(sheet.amend(number, &figures)),
+        as_answer(beside.model.amend(number, &figures)),
     )
 }
 
 fn load(
+    alloc: Global,
     random: &mut Random,
     sheet: &mut OpenSheet<'_>,
     beside: &mut Beside<'_>,
-) -> (Answer, Answer) {
-    let file = making::draw_file(random, &beside.model, &beside.habit);
-    let bytes = &file.bytes[0..file.length.min(making::ROOM)];
-    (told::loaded(&sheet.load(bytes)), beside.model.load(bytes))
+) -> Result<(Answer, Answer), AllocError> {
+    let file = making::draw_file(alloc, random, &beside.model, &beside.habit)?;
+    let answer = as_answer(sheet.load(&file));
+    Ok((answer, as_answer(beside.model.load(&file))))
 }
 
 fn judge(random: &mut Random, sheet: &mut OpenSheet<'_>, model: &mut Model) -> (Answer, Answer) {
@@ -83,7 +86,7 @@ fn judge(random: &mut Random, sheet: &mut OpenSheet<'_>, model: &mut Model) -> (
         Kind::Deadline => sheet.judge(core, &Deadline),
         Kind::Composable => sheet.judge(core, &Composable),
     };
-    (told::judged(&answer), model.judge(core, kind))
+    (as_answer(answer), as_answer(model.judge(core, kind)))
 }
 
 fn order(random: &mut Random, sheet: &mut OpenSheet<'_>, model: &mut Model) -> (Answer, Answer) {
@@ -93,7 +96,7 @@ fn order(random: &mut Random, sheet: &mut OpenSheet<'_>, model: &mut Model) -> (
         Kind::Deadline => sheet.order(core, &Deadline),
         Kind::Composable => sheet.order(core, &Composable),
     };
-    (told::ordered(&answer), model.order(core, kind))
+    (as_answer(answer), as_answer(model.order(core, kind)))
 }
 
 fn bound(random: &mut Random, sheet: &OpenSheet<'_>, model: &Model) -> (Answer, Answer) {
@@ -103,7 +106,7 @@ fn bound(random: &mut Random, sheet: &OpenSheet<'_>, model: &Model) -> (Answer, 
         Kind::Deadline => sheet.bound(number, &Deadline),
         Kind::Composable => sheet.bound(number, &Composable),
     };
-    (told::bounded(&answer), model.bound(number, kind))
+    (as_answer(answer), as_answer(model.bound(number, kind)))
 }
 
 // The buffers are compared too: where they differ, the second answer becomes one that no sheet
@@ -118,12 +121,18 @@ fn settle(random: &mut Random, sheet: &OpenSheet<'_>, model: &Model) -> (Answer,
     let filling = random.below(1000);
     let mut times = [filling; 80];
     let mut expected = [filling; 80];
-    let answer = told::settled(&sheet.settle(&mut times[0..room]));
-    let answer_too = model.settle(&mut expected[0..room]);
+    let answer = as_answer(sheet.settle(&mut times[..room]));
+    let answer_too = as_answer(model.settle(&mut expected[..room]));
     if times == expected {
         (answer, answer_too)
     } else {
-        (answer, Answer::Open)
+        (
+            answer,
+            Err(Refused {
+                refusal: Refusal::NoBound,
+                detail: Detail::Open,
+            }),
+        )
     }
 }
 
@@ -143,23 +152,25 @@ fn draw_call(random: &mut Random, crowded: bool) -> Call {
 
 // One random call, and whether the sheet and its model still agree.
 pub(crate) fn one_call(
+    alloc: Global,
     counts: &mut Counts,
     random: &mut Random,
     sheet: &mut OpenSheet<'_>,
     beside: &mut Beside<'_>,
-) {
+) -> Result<(), AllocError> {
     let crowded = beside.model.count() > beside.habit.crowd;
     let call = draw_call(random, crowded);
     let (answer, expected) = match call {
         Call::Enter => enter(random, sheet, beside),
         Call::Withdraw => withdraw(random, sheet, &mut beside.model),
         Call::Amend => amend(random, sheet, beside),
-        Call::Load => load(random, sheet, beside),
+        Call::Load => load(alloc, random, sheet, beside)?,
         Call::Judge => judge(random, sheet, &mut beside.model),
         Call::Order => order(random, sheet, &mut beside.model),
         Call::Bound => bound(random, sheet, &beside.model),
         Call::Settle => settle(random, sheet, &beside.model),
     };
     let same = answer == expected && agrees(sheet, beside);
-    counts.note(call, &expected, same);
+    counts.note(call, expected.err().map(|refused| refused.refusal), same);
+    Ok(())
 }

@@ -1,7 +1,7 @@
 // How many calls of each kind were compared, and how often each refusal was met.
-use crate::answers::Answer;
-use crate::tally::Tally;
-use std::io;
+use naive::tally::Tally;
+use std::{fmt, io};
+use table::refusal::Refusal;
 
 // The kinds of calls on a sheet.
 #[derive(Clone, Copy)]
@@ -16,18 +16,39 @@ pub(crate) enum Call {
     Settle,
 }
 
+// In the order in which they are shown.
+const CALLS: [Call; 8] = [
+    Call::Enter,
+    Call::Withdraw,
+    Call::Amend,
+    Call::Load,
+    Call::Judge,
+    Call::Order,
+    Call::Bound,
+    Call::Settle,
+];
+
+impl fmt::Display for Call {
+    fn fmt<W: fmt::Write>(&self, f: &mut fmt::Formatter<W>) -> fmt::Result {
+        f.write_str(match self {
+            Call::Enter => "enters",
+            Call::Withdraw => "withdrawals",
+            Call::Amend => "amendments",
+            Call::Load => "loads",
+            Call::Judge => "judgings",
+            Call::Order => "orderings",
+            Call::Bound => "sheet bounds",
+            Call::Settle => "sheet settlings",
+        })
+    }
+}
+
 #[derive(Clone, Copy)]
 pub(crate) struct Counts {
     openings: Tally,
     closings: Tally,
-    enters: Tally,
-    withdrawals: Tally,
-    amendments: Tally,
-    loads: Tally,
-    judgings: Tally,
-    orderings: Tally,
-    bounds: Tally,
-    settlings: Tally,
+    // By call.
+    calls: [Tally; 8],
     // By number.
     refusals: [u64; 15],
 }
@@ -35,16 +56,9 @@ pub(crate) struct Counts {
 impl Counts {
     pub(crate) fn new() -> Counts {
         Counts {
-            openings: Tally::new(),
-            closings: Tally::new(),
-            enters: Tally::new(),
-            withdrawals: Tally::new(),
-            amendments: Tally::new(),
-            loads: Tally::new(),
-            judgings: Tally::new(),
-            orderings: Tally::new(),
-            bounds: Tally::new(),
-            settlings: Tally::new(),
+            openings: Tally::default(),
+            closings: Tally::default(),
+            calls: [Tally::default(); 8],
             refusals: [0; 15],
         }
     }
@@ -59,29 +73,21 @@ impl Counts {
         self.closings.note(true, same);
     }
 
-    pub(crate) fn note(&mut self, call: Call, answer: &Answer, same: bool) {
-        let number = answer.refusal() as usize;
-        if number < 15 {
-            let before = self.refusals[number];
-            self.refusals[number] = before.saturating_add(1);
+    // A call, why it is refused, if it is, and whether the answers are the same.
+    pub(crate) fn note(&mut self, call: Call, refusal: Option<Refusal>, same: bool) {
+        if let Some(tally) = self.calls.get_mut(call as usize) {
+            tally.note(refusal.is_none(), same);
         }
-        let accepted = number == 0;
-        match call {
-            Call::Enter => self.enters.note(accepted, same),
-            Call::Withdraw => self.withdrawals.note(accepted, same),
-            Call::Amend => self.amendments.note(accepted, same),
-            Call::Load => self.loads.note(accepted, same),
-            Call::Judge => self.judgings.note(accepted, same),
-            Call::Order => self.orderings.note(accepted, same),
-            Call::Bound => self.bounds.note(accepted, same),
-            Call::Settle => self.settlings.note(accepted, same),
+        if let Some(refusal) = refusal {
+            if let Some(count) = self.refusals.get_mut(usize::from(refusal.number())) {
+                *count = count.saturating_add(1);
+            }
         }
     }
 
     fn show_refusals(&self, rt: &HostRuntime) -> io::Result<()> {
         print!(rt; "refusals")?;
-        for number in 2..15usize {
-            let count = self.refusals[number];
+        for (number, count) in self.refusals.iter().enumerate().skip(2) {
             let end = if number < 14 { "," } else { "\n" };
             print!(rt; " {number}: {count}{end}")?;
         }
@@ -89,16 +95,13 @@ impl Counts {
     }
 
     pub(crate) fn show(&self, rt: &HostRuntime) -> io::Result<()> {
-        self.openings.show(rt, "openings")?;
-        self.closings.show(rt, "closings")?;
-        self.enters.show(rt, "enters")?;
-        self.withdrawals.show(rt, "withdrawals")?;
-        self.amendments.show(rt, "amendments")?;
-        self.loads.show(rt, "loads")?;
-        self.judgings.show(rt, "judgings")?;
-        self.orderings.show(rt, "orderings")?;
-        self.bounds.show(rt, "sheet bounds")?;
-        self.settlings.show(rt, "sheet settlings")?;
+        let openings = self.openings;
+        let closings = self.closings;
+        println!(rt; "openings {openings}")?;
+        println!(rt; "closings {closings}")?;
+        for (call, tally) in CALLS.iter().zip(self.calls.iter()) {
+            println!(rt; "{call} {tally}")?;
+        }
         self.show_refusals(rt)
     }
 }

@@ -1,10 +1,12 @@
 // Damage to a file: to its length, to a byte, or to a field of a block whose check is made good.
-use crate::making::{File, ROOM};
-use crate::random::Random;
+use crate::making::{make_good, put};
+use crate::model::loading::byte;
+use naive::random::Random;
+use std::alloc::AllocError;
 
 // A block of the file.
-fn draw_block(random: &mut Random, file: &File) -> usize {
-    let blocks = (file.length / 512).min(65) as u32;
+fn draw_block(random: &mut Random, file: &[u8]) -> usize {
+    let blocks = (file.len() / 512).min(65) as u32;
     random.below(blocks) as usize
 }
 
@@ -19,61 +21,63 @@ fn draw_place(random: &mut Random) -> usize {
 }
 
 // Any byte of a block becomes another one.
-fn flip(random: &mut Random, file: &mut File, start: usize) {
+fn flip(random: &mut Random, file: &mut [u8], start: usize) {
     let at = start.saturating_add(draw_place(random));
     let change = 1 + random.below(255) as u8;
-    let old = file.get(at);
-    file.put(at, old ^ change);
+    let old = byte(file, at);
+    put(file, at, old ^ change);
 }
 
 // Another length: none, any, whole blocks, or one byte less.
-fn cut(random: &mut Random, file: &mut File) {
+fn cut(random: &mut Random, file: &mut Vec<u8>) -> Result<(), AllocError> {
     let length = match random.below(4) {
         0 => 0,
         1 => random.below(1600) as usize,
         2 => 512 * (1 + random.below(65) as usize),
-        _ => file.length.saturating_sub(1),
+        _ => file.len().saturating_sub(1),
     };
-    file.length = length.min(ROOM);
+    file.resize(length, 0)
 }
 
 // A field of a block becomes another; its check is not yet made good.
-fn alter(random: &mut Random, file: &mut File, start: usize) {
+fn alter(random: &mut Random, file: &mut [u8], start: usize) {
     let place = random.below(10) as usize;
-    let count = file.get(start.saturating_add(2));
+    let count = byte(file, start.saturating_add(2));
     match random.below(8) {
         // Another number of the block.
-        0 => file.put(start, 1),
-        1 => file.put(start.saturating_add(1), random.below(66) as u8),
+        0 => put(file, start, 1),
+        1 => put(file, start.saturating_add(1), random.below(66) as u8),
         // One record too many for a block, or for the count of this one, or one too few.
-        2 => file.put(start.saturating_add(2), 11),
-        3 => file.put(start.saturating_add(2), count.saturating_add(1)),
-        4 => file.put(start.saturating_add(2), count.saturating_sub(1)),
+        2 => put(file, start.saturating_add(2), 11),
+        3 => put(file, start.saturating_add(2), count.saturating_add(1)),
+        4 => put(file, start.saturating_add(2), count.saturating_sub(1)),
         // Another board.
-        5 => file.put(
+        5 => put(
+            file,
             start.saturating_add(3 + place % 2),
             1 + random.below(9) as u8,
         ),
         // The fourth byte of a record, or of a place without one.
-        6 => file.put(start.saturating_add(11 + 48 * place), 1),
+        6 => put(file, start.saturating_add(11 + 48 * place), 1),
         // A byte that has to be zero.
-        _ => file.put(start.saturating_add(488 + 2 * place), 1),
+        _ => put(file, start.saturating_add(488 + 2 * place), 1),
     }
 }
 
-pub(crate) fn spoil(random: &mut Random, file: &mut File) {
+pub(crate) fn spoil(random: &mut Random, file: &mut Vec<u8>) -> Result<(), AllocError> {
     let block = draw_block(random, file);
     let start = block.saturating_mul(512);
     match random.below(8) {
-        0 => cut(random, file),
+        0 => return cut(random, file),
         1 => flip(random, file, start),
         2 | 3 => {
             flip(random, file, start);
-            file.make_good(block);
+            make_good(file, block);
         }
         _ => {
             alter(random, file, start);
-            file.make_good(block);
+            make_good(file, block);
         }
     }
+    Ok(())
 }

@@ -1,7 +1,9 @@
 // Random calls on a sheet: mostly such as are accepted, and now and then one with any fault.
-use crate::model::{Amounts, Draft, Filed, Model};
-use crate::naive::Kind;
-use crate::random::Random;
+use crate::model::{Draft, Filed, Model};
+use naive::random::Random;
+use naive::recurrence::Kind;
+use std::array;
+use table::row::Figures;
 
 // How the calls on one sheet are drawn.
 #[derive(Clone, Copy)]
@@ -39,50 +41,46 @@ pub(crate) fn draw_kind(random: &mut Random) -> Kind {
 
 // By resource; 0 for one that the board lacks.
 fn draw_four(random: &mut Random, resources: u8, bound: u32) -> [u32; 4] {
-    let mut all = [0; 4];
-    for r in 0..4u8 {
+    array::from_fn(|r| {
         let drawn = random.below(bound);
-        if r < resources {
-            all[r as usize] = drawn;
-        }
-    }
-    all
+        if r < usize::from(resources) { drawn } else { 0 }
+    })
 }
 
-// Amounts with one that is as large as it may be, or breaks a limit on some boards or all.
-fn odd(random: &mut Random, usual: Amounts) -> Amounts {
+// Figures with one that is as large as it may be, or breaks a limit on some boards or all.
+fn odd(random: &mut Random, usual: Figures) -> Figures {
     let large = 10_000_000 + random.below(2);
     let r = random.below(4) as usize;
-    let mut amounts = usual;
+    let mut figures = usual;
     match random.below(10) {
-        0 => amounts.c = 0,
-        1 => amounts.c = large,
-        2 => amounts.t = 0,
-        3 => amounts.t = large,
-        4 => amounts.d = 0,
-        5 => amounts.d = usual.t.saturating_add(1),
-        6 => amounts.x[r] = large,
-        7 => amounts.y[r] = large,
-        8 => amounts.x[r] = 1,
-        _ => amounts.y[r] = 1,
+        0 => figures.cost = 0,
+        1 => figures.cost = large,
+        2 => figures.period = 0,
+        3 => figures.period = large,
+        4 => figures.deadline = 0,
+        5 => figures.deadline = usual.period.saturating_add(1),
+        6 => figures.sensitivity[r] = large,
+        7 => figures.stress[r] = large,
+        8 => figures.sensitivity[r] = 1,
+        _ => figures.stress[r] = 1,
     }
-    amounts
+    figures
 }
 
-pub(crate) fn draw_amounts(random: &mut Random, habit: &Habit, resources: u8) -> Amounts {
-    let t = habit.shortest.saturating_add(random.up_to(habit.spread));
-    let d = random.up_to(t);
-    let amounts = Amounts {
-        c: random.up_to(habit.heaviest),
-        t,
-        d: if random.one_in(2) { t } else { d },
-        x: draw_four(random, resources, habit.heaviest),
-        y: draw_four(random, resources, habit.heaviest),
+pub(crate) fn draw_figures(random: &mut Random, habit: &Habit, resources: u8) -> Figures {
+    let period = habit.shortest.saturating_add(random.up_to(habit.spread));
+    let deadline = random.up_to(period);
+    let figures = Figures {
+        cost: random.up_to(habit.heaviest),
+        period,
+        deadline: if random.one_in(2) { period } else { deadline },
+        sensitivity: draw_four(random, resources, habit.heaviest),
+        stress: draw_four(random, resources, habit.heaviest),
     };
     if random.one_in(12) {
-        odd(random, amounts)
+        odd(random, figures)
     } else {
-        amounts
+        figures
     }
 }
 
@@ -95,13 +93,10 @@ pub(crate) fn draw_number(random: &mut Random, model: &Model, taken: bool) -> us
         return random.below(72) as usize;
     }
     let start = random.below(64) as usize;
-    for k in 0..64usize {
-        let number = (start + k) % 64;
-        if number < model.capacity && model.slot(number).is_some() == taken {
-            return number;
-        }
-    }
-    start
+    (0..64)
+        .map(|k| (start + k) % 64)
+        .find(|number| *number < model.capacity && model.slot(*number).is_some() == taken)
+        .unwrap_or(start)
 }
 
 pub(crate) fn draw_core(random: &mut Random, model: &Model) -> u8 {
@@ -118,13 +113,10 @@ fn draw_rank(random: &mut Random, model: &Model, core: u8) -> u8 {
         return random.below(256) as u8;
     }
     let start = 1 + random.below(12) as u8;
-    for k in 0..64u8 {
-        let rank = (start + k) % 65;
-        if rank > 0 && model.holder(core, rank).is_none() {
-            return rank;
-        }
-    }
-    start
+    (0..64)
+        .map(|k| (start + k) % 65)
+        .find(|rank| *rank > 0 && model.holder(core, *rank).is_none())
+        .unwrap_or(start)
 }
 
 // A task to be entered.
@@ -143,7 +135,7 @@ pub(crate) fn draw_draft(random: &mut Random, model: &Model, habit: &Habit) -> D
         filed: Filed {
             core,
             rank,
-            amounts: draw_amounts(random, habit, model.board.resources),
+            figures: draw_figures(random, habit, model.board.resources),
         },
     }
 }

@@ -3,39 +3,15 @@
 // many differed.
 #![tactic(auto)]
 
-use bounds::composable::Composable;
-use bounds::deadline::Deadline;
 use counts::Counts;
-use random::Random;
+use naive::compare::compare_tables;
+use naive::random::Random;
 use std::io;
-use tally::Tally;
 
-// The file of a table, byte by byte.
-mod files;
-// Single questions, reckoned as they are told.
-mod naive;
-// Orders, by trying them all.
-mod orders;
-// Random numbers from a fixed seed.
-mod random;
-// The response test, round by round.
-mod settled;
-// Sets of task numbers.
-mod numbers;
-// Random boards, rows and sets.
-mod tables;
-// Both ways, side by side.
-mod compare;
-// Files, both ways.
-mod written;
-// How many questions there were, and how many differed.
-mod tally;
 // The sheet a second time.
 mod model;
 // What a call on a sheet answers.
 mod answers;
-// What the sheet answers, in the same words.
-mod told;
 // Random calls on a sheet.
 mod drafts;
 // Random files to load.
@@ -57,25 +33,9 @@ const SHEETS: u32 = 1000;
 
 // Tables: bounds, orders, settlings and files.
 fn try_tables(rt: &HostRuntime) -> io::Result<()> {
-    let mut random = Random::new(20261117);
-    let mut bounds = Tally::new();
-    let mut orders = Tally::new();
-    let mut rounds = Tally::new();
-    let mut files = Tally::new();
-    for _ in 0..TABLES {
-        let table = tables::draw_table(&mut random);
-        compare::all_bounds(&mut bounds, &mut random, &table);
-        for core in 0..4 {
-            compare::one_order(&mut orders, &table, core);
-        }
-        compare::settling(&mut rounds, &table);
-        written::file(&mut files, &mut random, &table);
-    }
+    let compared = compare_tables(20261117, TABLES);
     println!(rt; "tables {TABLES}")?;
-    bounds.show(rt, "bounds")?;
-    orders.show(rt, "orders")?;
-    rounds.show(rt, "settlings")?;
-    files.show(rt, "files")
+    print!(rt; "{compared}")
 }
 
 // Sheets: every call.
@@ -83,7 +43,7 @@ fn try_sheets(rt: &HostRuntime) -> io::Result<()> {
     let mut random = Random::new(20261118);
     let mut counts = Counts::new();
     for _ in 0..SHEETS {
-        sheets::one_sheet(&mut counts, &mut random);
+        sheets::one_sheet(rt.alloc(), &mut counts, &mut random)?;
     }
     println!(rt; "sheets {SHEETS}")?;
     counts.show(rt)

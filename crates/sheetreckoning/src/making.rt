@@ -1,65 +1,34 @@
 // Random files, written byte by byte, and half of them damaged.
-use crate::answers::Answer;
 use crate::drafts::Habit;
-use crate::model::{Draft, Model};
-use crate::random::Random;
-use crate::{damage, drafts, files};
+use crate::model::{Draft, Model, loading};
+use crate::{damage, drafts};
+use naive::files::words;
+use naive::random::Random;
+use std::alloc::{AllocError, Global};
 
-// One block more than a file may have.
-pub(crate) const ROOM: usize = 33_280;
-
-// The first `length` bytes are the file.
-#[derive(Clone, Copy)]
-pub(crate) struct File {
-    pub(crate) bytes: [u8; ROOM],
-    pub(crate) length: usize,
-}
-
-impl File {
-    pub(crate) fn get(&self, at: usize) -> u8 {
-        if at < ROOM { self.bytes[at] } else { 0 }
-    }
-
-    pub(crate) fn put(&mut self, at: usize, value: u8) {
-        if at < ROOM {
-            self.bytes[at] = value;
-        }
-    }
-
-    // Stores the check of a block as its bytes are.
-    pub(crate) fn make_good(&mut self, block: usize) {
-        let start = block.saturating_mul(512);
-        let mut sum: u32 = 0;
-        for k in 0..510 {
-            sum = sum.saturating_add(self.get(start.saturating_add(k)) as u32);
-        }
-        self.put(start.saturating_add(510), files::digit(sum, 2));
-        self.put(start.saturating_add(511), files::digit(sum, 3));
+// Another value for a byte, if there is such a byte.
+pub(crate) fn put(file: &mut [u8], at: usize, value: u8) {
+    if let Some(byte) = file.get_mut(at) {
+        *byte = value;
     }
 }
 
-// The fields of four bytes, in their order.
-fn words(draft: &Draft) -> [u32; 11] {
-    let amounts = draft.filed.amounts;
-    let [x0, x1, x2, x3] = amounts.x;
-    let [y0, y1, y2, y3] = amounts.y;
-    [
-        amounts.c, amounts.t, amounts.d, x0, x1, x2, x3, y0, y1, y2, y3,
-    ]
+// Stores the check of a block as its bytes are.
+pub(crate) fn make_good(file: &mut [u8], block: usize) {
+    let start = block.saturating_mul(512);
+    let [_, _, high, low] = loading::total(file, start).to_be_bytes();
+    put(file, start.saturating_add(510), high);
+    put(file, start.saturating_add(511), low);
 }
 
-fn write_record(file: &mut File, at: usize, draft: &Draft) {
-    file.put(at, (draft.number % 256) as u8);
-    file.put(at.saturating_add(1), draft.filed.core);
-    file.put(at.saturating_add(2), draft.filed.rank);
-    file.put(at.saturating_add(3), draft.fourth);
-    let words = words(draft);
-    for k in 0..11 {
-        for digit in 0..4 {
-            let place = at.saturating_add(4 + 4 * k + digit);
-            file.put(place, files::digit(words[k], digit));
-        }
+fn write_record(file: &mut Vec<u8>, draft: &Draft) -> Result<(), AllocError> {
+    let number = (draft.number % 256) as u8;
+    let filed = draft.filed;
+    file.extend_from_slice(&[number, filed.core, filed.rank, draft.fourth])?;
+    for word in words(&filed.figures) {
+        file.extend_from_slice(&word.to_be_bytes())?;
     }
+    Ok(())
 }
 
 // How many records a block has: few in a file of many blocks.
@@ -87,7 +56,7 @@ fn draw_blocks(random: &mut Random) -> usize {
 fn draw_record(random: &mut Random, ahead: &mut Model, habit: &Habit, any: bool) -> Draft {
     let mut draft = drafts::draw_draft(random, ahead, habit);
     for _ in 0..4 {
-        if ahead.enter(&draft) == Answer::Done || any {
+        if ahead.enter(&draft).is_ok() || any {
             return draft;
         }
         draft = drafts::draw_draft(random, ahead, habit);
@@ -95,36 +64,65 @@ fn draw_record(random: &mut Random, ahead: &mut Model, habit: &Habit, any: bool)
     draft
 }
 
-// A file whose blocks are sound; in half of them the records are too, nearly always.
-fn draw_sound(random: &mut Random, model: &Model, habit: &Habit) -> File {
-    let blocks = draw_blocks(random);
-    let any = random.one_in(2);
-    let mut ahead = *model;
-    let mut file = File {
-        bytes: [0; ROOM],
-        length: blocks.saturating_mul(512),
-    };
-    for block in 0..blocks.min(65) {
-        let start = block.saturating_mul(512);
-        let count = draw_count(random, blocks);
-        file.put(start.saturating_add(1), block as u8);
-        file.put(start.saturating_add(2), count);
-        file.put(start.saturating_add(3), model.board.cores);
-        file.put(start.saturating_add(4), model.board.resources);
-        for place in 0..count {
-            let draft = draw_record(random, &mut ahead, habit, any);
-            let at = start.saturating_add(8 + 48 * place as usize);
-            write_record(&mut file, at, &draft);
-        }
-        file.make_good(block);
-    }
-    file
+// What the records of a file are drawn with: a model that is carried along, and whether any record
+// is taken.
+#[derive(Clone, Copy)]
+struct Drawing<'a> {
+    ahead: Model,
+    habit: &'a Habit,
+    any: bool,
 }
 
-pub(crate) fn draw_file(random: &mut Random, model: &Model, habit: &Habit) -> File {
-    let mut file = draw_sound(random, model, habit);
-    if random.one_in(2) {
-        damage::spoil(random, &mut file);
+// One block more, of so many.
+fn write_block(
+    file: &mut Vec<u8>,
+    random: &mut Random,
+    drawing: &mut Drawing<'_>,
+    block: usize,
+    blocks: usize,
+) -> Result<(), AllocError> {
+    let count = draw_count(random, blocks);
+    let board = drawing.ahead.board;
+    let number = (block % 256) as u8;
+    file.extend_from_slice(&[0, number, count, board.cores, board.resources, 0, 0, 0])?;
+    for _ in 0..count {
+        let draft = draw_record(random, &mut drawing.ahead, drawing.habit, drawing.any);
+        write_record(file, &draft)?;
     }
-    file
+    file.resize(block.saturating_add(1).saturating_mul(512), 0)?;
+    make_good(file, block);
+    Ok(())
+}
+
+// A file whose blocks are sound; in half of them the records are too, nearly always.
+fn draw_sound(
+    alloc: Global,
+    random: &mut Random,
+    model: &Model,
+    habit: &Habit,
+) -> Result<Vec<u8>, AllocError> {
+    let blocks = draw_blocks(random);
+    let mut drawing = Drawing {
+        ahead: *model,
+        habit,
+        any: random.one_in(2),
+    };
+    let mut file = Vec::new(alloc);
+    for block in 0..blocks {
+        write_block(&mut file, random, &mut drawing, block, blocks)?;
+    }
+    Ok(file)
+}
+
+pub(crate) fn draw_file(
+    alloc: Global,
+    random: &mut Random,
+    model: &Model,
+    habit: &Habit,
+) -> Result<Vec<u8>, AllocError> {
+    let mut file = draw_sound(alloc, random, model, habit)?;
+    if random.one_in(2) {
+        damage::spoil(random, &mut file)?;
+    }
+    Ok(file)
 }

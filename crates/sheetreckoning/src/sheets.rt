@@ -2,9 +2,11 @@
 use crate::calls::Beside;
 use crate::counts::Counts;
 use crate::model::Model;
-use crate::random::Random;
-use crate::{calls, drafts, tables};
+use crate::{calls, drafts};
+use naive::random::Random;
+use naive::tables;
 use sheet::open::OpenSheet;
+use std::alloc::{AllocError, Global};
 use table::row::Row;
 
 // How many calls before a sheet is closed and reopened, and how many after.
@@ -27,7 +29,11 @@ fn draw_length(random: &mut Random) -> usize {
 }
 
 // One sheet: opened, called, closed and reopened, and called again.
-pub(crate) fn one_sheet(counts: &mut Counts, random: &mut Random) {
+pub(crate) fn one_sheet(
+    alloc: Global,
+    counts: &mut Counts,
+    random: &mut Random,
+) -> Result<(), AllocError> {
     let board = tables::draw_board(random, 8);
     let lent = draw_garbage(random);
     let length = draw_length(random).min(70);
@@ -40,11 +46,12 @@ pub(crate) fn one_sheet(counts: &mut Counts, random: &mut Random) {
     let mut sheet = OpenSheet::open(board, &mut rows[0..length]);
     counts.note_opening(calls::agrees(&sheet, &beside));
     for _ in 0..CALLS {
-        calls::one_call(counts, random, &mut sheet, &mut beside);
+        calls::one_call(alloc, counts, random, &mut sheet, &mut beside)?;
     }
     let mut sheet = sheet.close().reopen();
     counts.note_closing(calls::agrees(&sheet, &beside));
     for _ in 0..CALLS {
-        calls::one_call(counts, random, &mut sheet, &mut beside);
+        calls::one_call(alloc, counts, random, &mut sheet, &mut beside)?;
     }
+    Ok(())
 }

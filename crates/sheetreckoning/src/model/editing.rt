@@ -1,119 +1,113 @@
-// Entering, withdrawing and amending: of all faults the one that comes first in the order of the
-// checks is told, so they are looked at from the last to the first.
-use crate::answers::Answer;
-use crate::model::{Amounts, Draft, Filed, Model};
-use crate::naive::Kind;
+// Entering, withdrawing and amending: every fault is looked for, and the first in the order of the
+// checks is told.
+use crate::model::{Draft, Filed, Model};
+use naive::recurrence::Kind;
+use table::refusal::Refusal;
+use table::row::Figures;
 
 fn is_amount(n: u32) -> bool {
     n < 10_000_001
 }
 
-// The answer to a fault, or to none.
-fn answered(fault: Option<u8>) -> Answer {
-    match fault {
-        Some(number) => Answer::Refused(number),
-        None => Answer::Done,
+// The first of these faults that is there refuses.
+pub(crate) fn refused_by(faults: &[(bool, Refusal)]) -> Result<(), Refusal> {
+    match faults.iter().find(|fault| fault.0) {
+        Some((_, refusal)) => Err(*refusal),
+        None => Ok(()),
     }
 }
 
 impl Model {
+    // Whether a sensitivity and a stress fit a resource.
+    fn fits_resource(&self, r: usize, suffered: u32, inflicted: u32) -> bool {
+        let is_had = r < usize::from(self.board.resources);
+        is_amount(suffered) && is_amount(inflicted) && (is_had || (suffered == 0 && inflicted == 0))
+    }
+
     // Every limit, on the board.
-    fn fits(&self, amounts: &Amounts) -> bool {
-        let Amounts { c, t, d, x, y } = *amounts;
-        let mut fits = c != 0 && is_amount(c) && d != 0 && is_amount(t) && t >= d;
-        for r in 0..4u8 {
-            let suffered = x[r as usize];
-            let inflicted = y[r as usize];
-            if !is_amount(suffered) || !is_amount(inflicted) {
-                fits = false;
-            }
-            if r >= self.board.resources && (suffered != 0 || inflicted != 0) {
-                fits = false;
-            }
-        }
-        fits
+    fn fits(&self, figures: &Figures) -> bool {
+        let Figures {
+            cost,
+            period,
+            deadline,
+            sensitivity,
+            stress,
+        } = *figures;
+        let times = deadline != 0 && is_amount(period) && period >= deadline;
+        let by_resource = sensitivity.iter().zip(stress.iter()).enumerate().all(|(
+            r,
+            (suffered, inflicted),
+        )| self.fits_resource(r, *suffered, *inflicted));
+        cost != 0 && is_amount(cost) && times && by_resource
+    }
+
+    // Whether a core may have a task of a rank, and has none yet.
+    fn is_free(&self, core: u8, rank: u8) -> bool {
+        (1..=64).contains(&rank) && self.holder(core, rank).is_none()
     }
 
     // What speaks against filing a draft.
-    fn entry_fault(&self, draft: &Draft) -> Option<u8> {
+    fn check_entry(&self, draft: &Draft) -> Result<(), Refusal> {
         let Filed {
             core,
             rank,
-            amounts,
+            figures,
         } = draft.filed;
-        let mut fault = None;
-        if draft.fourth != 0 || !self.fits(&amounts) {
-            fault = Some(6);
-        }
-        if rank == 0 || rank > 64 || self.holder(core, rank).is_some() {
-            fault = Some(11);
-        }
-        if core >= self.board.cores {
-            fault = Some(10);
-        }
-        if self.slot(draft.number).is_some() {
-            fault = Some(8);
-        }
-        if draft.number >= self.capacity {
-            fault = Some(7);
-        }
-        fault
+        refused_by(&[
+            (draft.number >= self.capacity, Refusal::NumberTooLarge),
+            (self.slot(draft.number).is_some(), Refusal::NumberOccupied),
+            (core >= self.board.cores, Refusal::CoreLacking),
+            (!self.is_free(core, rank), Refusal::RankUnavailable),
+            (
+                draft.fourth != 0 || !self.fits(&figures),
+                Refusal::FigureLimits,
+            ),
+        ])
     }
 
-    // What speaks against naming a number as a task's.
-    pub(crate) fn number_fault(&self, number: usize) -> Option<u8> {
-        let mut fault = None;
-        if self.slot(number).is_none() {
-            fault = Some(9);
-        }
+    // The task of a number, or what speaks against naming it as a task's.
+    pub(crate) fn named(&self, number: usize) -> Result<Filed, Refusal> {
         if number >= self.capacity {
-            fault = Some(7);
+            return Err(Refusal::NumberTooLarge);
         }
-        fault
+        self.slot(number).ok_or(Refusal::NumberEmpty)
     }
 
     // Fills or clears a slot. A core stands no longer if it is the one that changed, or if its test
     // looks at all cores.
     fn change(&mut self, number: usize, slot: Option<Filed>, core: u8) {
-        if number < 64 {
-            self.slots[number] = slot;
+        if let Some(place) = self.slots.get_mut(number) {
+            *place = slot;
         }
-        for k in 0..8u8 {
-            let far = self.stands[k as usize] == Some(Kind::Deadline);
-            if far || k == core {
-                self.stands[k as usize] = None;
+        for (k, stand) in self.stands.iter_mut().enumerate() {
+            if *stand == Some(Kind::Deadline) || k == usize::from(core) {
+                *stand = None;
             }
         }
     }
 
-    pub(crate) fn enter(&mut self, draft: &Draft) -> Answer {
-        let fault = self.entry_fault(draft);
-        if fault.is_none() {
-            self.change(draft.number, Some(draft.filed), draft.filed.core);
-        }
-        answered(fault)
+    pub(crate) fn enter(&mut self, draft: &Draft) -> Result<(), Refusal> {
+        self.check_entry(draft)?;
+        self.change(draft.number, Some(draft.filed), draft.filed.core);
+        Ok(())
     }
 
-    pub(crate) fn withdraw(&mut self, number: usize) -> Answer {
-        let fault = self.number_fault(number);
-        if let (None, Some(old)) = (fault, self.slot(number)) {
-            self.change(number, None, old.core);
-        }
-        answered(fault)
+    pub(crate) fn withdraw(&mut self, number: usize) -> Result<(), Refusal> {
+        let old = self.named(number)?;
+        self.change(number, None, old.core);
+        Ok(())
     }
 
-    pub(crate) fn amend(&mut self, number: usize, amounts: &Amounts) -> Answer {
-        let mut fault = self.number_fault(number);
-        if fault.is_none() && !self.fits(amounts) {
-            fault = Some(6);
+    pub(crate) fn amend(&mut self, number: usize, figures: &Figures) -> Result<(), Refusal> {
+        let old = self.named(number)?;
+        if !self.fits(figures) {
+            return Err(Refusal::FigureLimits);
         }
-        if let (None, Some(old)) = (fault, self.slot(number)) {
-            let filed = Filed {
-                amounts: *amounts,
-                ..old
-            };
-            self.change(number, Some(filed), old.core);
-        }
-        answered(fault)
+        let filed = Filed {
+            figures: *figures,
+            ..old
+        };
+        self.change(number, Some(filed), old.core);
+        Ok(())
     }
 }

@@ -1,20 +1,18 @@
 // Judging, ordering, bounds and settling, over the naive recurrences.
-use crate::answers::Answer;
-use crate::model::{Filed, Model, blank};
-use crate::naive::{Kind, Question};
-use crate::numbers::Numbers;
-use crate::settled::Ended;
-use crate::{naive, settled};
+use crate::answers::{Detail, Refused};
+use crate::model::{Filed, Model};
+use naive::numbers::Numbers;
+use naive::recurrence::{Kind, Question};
+use naive::rounds::Unsettled;
+use naive::{recurrence, rounds};
+use std::array;
+use table::refusal::Refusal;
 use table::row::Row;
 
 impl Model {
     // The slots as rows, for the recurrences.
     fn rows(&self) -> [Row; 64] {
-        let mut rows = [blank(); 64];
-        for number in 0..64 {
-            rows[number] = self.row(number);
-        }
-        rows
+        array::from_fn(|number| self.row(number))
     }
 
     // The bound of a task with some tasks above it.
@@ -23,39 +21,42 @@ impl Model {
         let question = Question {
             kind,
             board: self.board,
-            rows: &rows[0..self.capacity.min(64)],
+            rows: &rows[..self.capacity],
             number,
             above,
-            ahead: naive::deadlines(&rows),
+            ahead: recurrence::deadlines(&rows),
         };
-        naive::bound(&question)
+        question.bound()
     }
 
     // The bound of a task under the present ranks.
     fn present(&self, kind: Kind, number: usize) -> Option<u32> {
-        self.reckon(kind, number, naive::above(&self.rows(), number))
+        self.reckon(kind, number, recurrence::above(&self.rows(), number))
     }
 
     fn set_stand(&mut self, core: u8, kind: Kind) {
-        if core < 8 {
-            self.stands[core as usize] = Some(kind);
+        if let Some(stand) = self.stands.get_mut(usize::from(core)) {
+            *stand = Some(kind);
         }
     }
 
     // From the highest rank to the lowest, until a task has no bound.
-    pub(crate) fn judge(&mut self, core: u8, kind: Kind) -> Answer {
+    pub(crate) fn judge(&mut self, core: u8, kind: Kind) -> Result<(), Refused> {
         if core >= self.board.cores {
-            return Answer::Refused(10);
+            return Err(Refused::from(Refusal::CoreLacking));
         }
         for rank in 1..=64u8 {
             if let Some(number) = self.holder(core, rank) {
                 if self.present(kind, number).is_none() {
-                    return Answer::Unbound(13, number);
+                    return Err(Refused {
+                        refusal: Refusal::NoBound,
+                        detail: Detail::Unbound(number),
+                    });
                 }
             }
         }
         self.set_stand(core, kind);
-        Answer::Done
+        Ok(())
     }
 
     // The first of the unplaced tasks that has a bound with all the others above it, and how many
@@ -75,78 +76,67 @@ impl Model {
         (None, tried)
     }
 
-    fn tasks_of(&self, core: u8) -> Numbers {
-        let mut all = Numbers::NONE;
-        for number in 0..64 {
-            if let Some(filed) = self.slot(number) {
-                if filed.core == core {
-                    all.put(number);
-                }
-            }
-        }
-        all
-    }
-
-    // Ranks for the tasks that have one in the list; 0 is none.
-    fn rank(&mut self, ranks: &[u8; 64]) {
-        for number in 0..64 {
-            let rank = ranks[number];
-            if let (true, Some(old)) = (rank > 0, self.slot(number)) {
-                self.slots[number] = Some(Filed { rank, ..old });
+    // Ranks for the tasks that have one in the list.
+    fn rank(&mut self, ranks: &[Option<u8>; 64]) {
+        for (slot, rank) in self.slots.iter_mut().zip(ranks.iter()) {
+            if let (Some(old), Some(rank)) = (*slot, *rank) {
+                *slot = Some(Filed { rank, ..old });
             }
         }
     }
 
     // The ranks, from the largest number down, until all tasks are placed or none can be.
-    pub(crate) fn order(&mut self, core: u8, kind: Kind) -> Answer {
+    pub(crate) fn order(&mut self, core: u8, kind: Kind) -> Result<u32, Refused> {
         if core >= self.board.cores {
-            return Answer::Refused(10);
+            return Err(Refused::from(Refusal::CoreLacking));
         }
-        let mut unplaced = self.tasks_of(core);
-        let mut ranks = [0u8; 64];
+        let mut unplaced = recurrence::tasks_of(&self.rows(), core);
+        let mut ranks = [None; 64];
         let mut trials: u32 = 0;
-        for _ in 0..unplaced.count() {
+        for rank in (1..=unplaced.count() as u8).rev() {
             let (taker, tried) = self.lowest(kind, &unplaced);
             trials = trials.saturating_add(tried);
-            match taker {
-                Some(number) => {
-                    if number < 64 {
-                        ranks[number] = unplaced.count().min(64) as u8;
-                    }
-                    unplaced.remove(number);
-                }
-                None => return Answer::Unordered(12, trials, unplaced.count()),
+            let Some(number) = taker else {
+                return Err(Refused {
+                    refusal: Refusal::NoOrder,
+                    detail: Detail::Unplaced {
+                        trials,
+                        unplaced: unplaced.count(),
+                    },
+                });
+            };
+            if let Some(place) = ranks.get_mut(number) {
+                *place = Some(rank);
             }
+            unplaced.remove(number);
         }
         self.rank(&ranks);
         self.set_stand(core, kind);
-        Answer::Told(trials)
+        Ok(trials)
     }
 
-    pub(crate) fn bound(&self, number: usize, kind: Kind) -> Answer {
-        match (self.number_fault(number), self.present(kind, number)) {
-            (Some(fault), _) => Answer::Refused(fault),
-            (None, None) => Answer::Refused(13),
-            (None, Some(bound)) => Answer::Told(bound),
-        }
+    pub(crate) fn bound(&self, number: usize, kind: Kind) -> Result<u32, Refusal> {
+        self.named(number)?;
+        self.present(kind, number).ok_or(Refusal::NoBound)
     }
 
-    pub(crate) fn settle(&self, times: &mut [u32]) -> Answer {
+    pub(crate) fn settle(&self, times: &mut [u32]) -> Result<u32, Refused> {
         if times.len() < self.capacity {
-            return Answer::Refused(14);
+            return Err(Refused::from(Refusal::BufferTooShort));
         }
         let rows = self.rows();
-        match settled::settle(&self.board, &rows[0..self.capacity.min(64)]) {
-            Ended::Settled(list, round) => {
-                for k in 0..64 {
-                    if k < self.capacity && k < times.len() {
-                        times[k] = list[k];
-                    }
-                }
-                Answer::Told(round)
+        match rounds::settle(&self.board, &rows[..self.capacity]) {
+            Ok(settled) => {
+                times[..self.capacity].copy_from_slice(&settled.bounds[..self.capacity]);
+                Ok(settled.round)
             }
-            Ended::Unbounded(task, round) => Answer::Unsettled(13, task, round),
-            Ended::Never => Answer::Open,
+            Err(unsettled) => Err(Refused {
+                refusal: Refusal::NoBound,
+                detail: match unsettled {
+                    Unsettled::Unbounded { task, round } => Detail::Unsettled { task, round },
+                    Unsettled::Open => Detail::Open,
+                },
+            }),
         }
     }
 }

@@ -1,0 +1,5 @@
+pub mod Sets
+pub mod Draws
+pub mod Tallies
+pub mod Answers
+pub mod Rounds
