@@ -9,4 +9,3 @@ pub mod Fair
 pub mod Falling
 pub mod Ended
 pub mod Checked
-pub mod Made

@@ -62,9 +62,7 @@ fn all_bounds(tally: &mut Tally, random: &mut Random, table: &Table) {
 // The same numbers, or both none.
 fn is_same_order(found: &Result<Found, NoOrder>, expected: &Option<Order>) -> bool {
     match (found, expected) {
-        (Ok(found), Some(order)) => {
-            found.order.numbers.as_slice() == order.as_slice()
-        }
+        (Ok(found), Some(order)) => { found.order.numbers.as_slice() == order.as_slice() }
         (Err(_), None) => true,
         _ => false,
     }

@@ -38,7 +38,7 @@ unfolding without
 without_within U k j h = (and_parts (U j) (not (eqb j k)) h).0
 
 -- a number that is not there is not taken out
-without_none : (U : Set) (k : ℕ) → U k ≡ false → U ≡ without U k
+pub without_none : (U : Set) (k : ℕ) → U k ≡ false → U ≡ without U k
 without_none U k e = fun_ext (λ j. ⊎_elim
     (λ same. ap U same ∙ e ∙ sym (ap (without U k) same ∙ without_at U k))
     (λ other. sym (without_other U k j other))

@@ -24,6 +24,11 @@ module _ {F B C : Type 0} (g : Mut F (ℕ × Unit {0}) B) (view : B → C) (h : 
   from_fn_seen ys n w = fill_by_all h (map view ys) n (view d) (length-map ys view ∙ w.long) (λ k l.
       get_or-map view ys k d (view d) (omega (arith, l, w.long)) ∙ places ys 0 n f refl w.each k (omega arith) (omega (arith, l)))
 
-pub from_fn_same : {F B : Type 0} (g : Mut F (ℕ × Unit {0}) B) (h : ℕ → B) (f : F) (d : B)
-    → ((i : ℕ) (y : B) (q : F) → Called g f (i, tt) y q → (q ≡ f) × (y ≡ h i)) → (ys : List B) (n : ℕ) → IsFromFnResult g f ys n → ys ≡ map h (range_with_len 0 n)
-from_fn_same g h f d call ys n w = fill_by_all h ys n d w.long (λ k l. places g (λ y. y) h f d call ys 0 n f refl w.each k (omega arith) (omega (arith, l)))
+module _ {F B : Type 0} (g : Mut F (ℕ × Unit {0}) B) (h : ℕ → B) (f : F) (d : B)
+    (call : (i : ℕ) (y : B) (q : F) → Called g f (i, tt) y q → (q ≡ f) × (y ≡ h i)) where
+  -- the element of each place
+  pub made_at : (ys : List B) (n : ℕ) → IsFromFnResult g f ys n → (k : ℕ) → k < n → get_or ys k d ≡ h k
+  made_at ys n w k l = places g (λ y. y) h f d call ys 0 n f refl w.each k (omega arith) (omega (arith, l))
+
+  pub from_fn_same : (ys : List B) (n : ℕ) → IsFromFnResult g f ys n → ys ≡ map h (range_with_len 0 n)
+  from_fn_same ys n w = fill_by_all h ys n d w.long (made_at ys n w)

@@ -1,9 +1,10 @@
-use Rattle.std.proofs.Common.{rules, sym, ◌∙◌, arith}
-use Rattle.naive.proofs.FromFn.{made_at}
+use Rattle.std.proofs.Common.{rules, false, map, sym, ap, ◌∙◌}
 use Rattle.naive.proofs.Tasks.{above_task, none_flagged, none_ranked, past_ranked}
 use Rattle.naive.proofs.recurrence.above.Goals as goal
 use Rattle.naive.specs.Answers.{is_above, ranked_above}
-use Rattle.table.proofs.Flags.{flagged_all}
+use Rattle.std.specs.List.{range_with_len}
+use Rattle.table.proofs.Flags.{flags_of}
+use Rattle.table.proofs.FromFn.{from_fn_same}
 use mathlib.Core.Path.{fun_ext}
 
 pub returns-in-Some : goal.returns-in-Some
@@ -14,10 +15,9 @@ returns-in-Some c =
     let flags = c.from_fn.result in
     let held = sym c.task.ensures ∙ c.in-Some.is in
     record {
-      answer = flagged_all (ranked_above rows i) 64 flags (omega arith) (past_ranked rows i) (
-        c.from_fn.ensures.items.long,
-        λ k l. made_at _ (is_above rows me) _ (λ j y q call. search rules) flags _ 64 k c.from_fn.ensures.items l ∙ above_task rows i me held k,
-      );
+      answer = flags_of (ranked_above rows i) flags (past_ranked rows i) (
+          from_fn_same _ (is_above rows me) _ false (λ j y q call. search rules) flags 64 c.from_fn.ensures.items
+          ∙ ap (λ f. map f (range_with_len 0 64)) (fun_ext (above_task rows i me held)));
     }
 
 pub returns-in-None : goal.returns-in-None

@@ -5,7 +5,7 @@ use Rattle.naive.specs.Sets.{members}
 use Rattle.std.proofs.Common.{false, arith}
 
 pub returns-then-number-lt64 : goal.returns-then-number-lt64
-returns-then-number-lt64 c = record { answer = flag_cleared c.args.self.now.flags c.args.number (omega arith) }
+returns-then-number-lt64 c = record { answer = flag_cleared c.args.self.now.flags c.args.number }
 
 pub returns-else-number-lt64 : goal.returns-else-number-lt64
 returns-else-number-lt64 c = record { answer = without_none (members c.args.self.now) c.args.number (get_or_past c.args.self.now.flags c.args.number false (omega arith)) }
