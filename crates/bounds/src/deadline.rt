@@ -47,6 +47,7 @@ impl Test for Deadline {
         prepared.ask(number, above)
     }
 
+    // As the trait writes it, for what is promised here besides: that it is the least.
     fn bound(&self, board: &Board, rows: &[Row], number: usize, above: &TaskSet) -> Option<u32>
         ensures answer { result ≡ deadline_bound board.now rows.now number (members above.now) }
         ensures least { BoundsLeast deadline_rule board.now rows.now number (members above.now) result }

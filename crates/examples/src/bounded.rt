@@ -1,25 +1,15 @@
 // The two tests on small tables.
 use bounds::composable::Composable;
 use bounds::deadline::Deadline;
-use figures::{worked_board, worked_rows};
+use figures::{task_row, worked_board, worked_rows};
 use table::board::Board;
 use table::row::{Figures, Row};
 use table::set::TaskSet;
 use table::testing::Test;
 
+// A task that no other core can delay, with its period for a deadline.
 fn task(core: u8, rank: u8, cost: u32, period: u32) -> Row {
-    Row {
-        used: true,
-        core,
-        rank,
-        figures: Figures {
-            cost,
-            period,
-            deadline: period,
-            sensitivity: [0; 4],
-            stress: [0; 4],
-        },
-    }
+    task_row(core, rank, cost, period, period, 0, 0)
 }
 
 const ONE_CORE: Board = Board {

@@ -27,7 +27,7 @@ const ROW: Row = Row {
     },
 };
 
-// All checks that a file for a board has to pass.
+// All checks that a file for a board has to pass: a test's own, for a file of any length.
 fn check_file(board: &Board, bytes: &[u8]) -> Result<(), Refusal> {
     check_length(bytes.len())?;
     let reader = Reader::new(bytes);

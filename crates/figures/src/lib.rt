@@ -19,8 +19,8 @@ pub fn worked_board() -> Board
 }
 
 // A row by its core, rank, C, T, D and, for the one resource, X and Y.
-fn task_row(core: u8, rank: u8, cost: u32, period: u32, deadline: u32, x: u32, y: u32) -> Row
-    ensures { result ≡ task_row core rank cost period deadline x y }
+pub fn task_row(core: u8, rank: u8, cost: u32, period: u32, deadline: u32, x: u32, y: u32) -> Row
+    ensures answer { result ≡ task_row core rank cost period deadline x y }
 {
     Row {
         used: true,

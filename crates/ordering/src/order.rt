@@ -2,13 +2,13 @@
 use arrayvec::ArrayVec;
 
 // The numbers of the tasks, from the lowest place up.
-#[derive(Debug, Drop)]
+#[derive(Clone, Debug, Drop)]
 pub struct Order {
     pub numbers: ArrayVec<usize, 64>,
 }
 
 // An order that was found, and how many tasks were tried over all its places.
-#[derive(Debug, Drop)]
+#[derive(Clone, Debug, Drop)]
 pub struct Found {
     pub order: Order,
     pub trials: u32,

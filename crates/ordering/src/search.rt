@@ -21,7 +21,8 @@ struct Taker {
     trials: u32,
 }
 
-// The tasks that are left are tried by rising number, each with the others above it.
+// The tasks that are left are tried by rising number, each with the others above it. By a loop: `find`
+// would not tell how many were tried.
 fn find_taker<T: Test>(asking: &Asking<'_, T>, tasks: &TaskSet) -> Taker
     ensures number { result.number ≡ first_taker (T.Test.meaning asking.now.test.now asking.now.board asking.now.rows.now) (members tasks.now) }
     ensures trials { result.trials ≡ tried (members tasks.now) result.number }

@@ -7,6 +7,7 @@ use crate::call::{Answer, Call};
 use sheet::open::OpenSheet;
 use table::testing::Test;
 
+// A match and no closure in the call: a list of calls is what the promise of a run is stated for.
 pub(crate) fn apply<T: Test>(sheet: &mut OpenSheet<'_>, test: &T, call: &Call<'_>) -> Answer
     ensures answer { result ≡ answer_to (T.Test.meaning test.now) (state_of sheet.old) call.now }
     ensures after { Becomes sheet.old sheet.new (after (T.Test.meaning test.now) T.Test.wide (state_of sheet.old) call.now) }

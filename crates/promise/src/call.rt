@@ -34,7 +34,7 @@ pub enum Answer {
 }
 
 impl Answer {
-    // Why the call was refused, if it was.
+    // Why the call was refused, if it was. No failure of its own, so an Option.
     pub fn refusal(&self) -> Option<Refusal>
         ensures answer { result ≡ refusal_in self.now }
     {

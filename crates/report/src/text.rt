@@ -3,7 +3,7 @@ use arrayvec::ArrayVec;
 
 mod adding;
 
-#[derive(Drop)]
+#[derive(Clone, Drop)]
 pub struct Text {
     bytes: ArrayVec<u8, 8192>,
 }

@@ -8,11 +8,17 @@ use Rattle.sheet.specs.declared.refused.NotPassing.{NotPassing}
 use Rattle.table.specs.Refusals.{number_of}
 use Rattle.table.specs.declared.refusal.Refusal.TheVariants.{CoreLacking, NoBound, NoOrder}
 use Rattle.table.specs.declared.refusal.Refusal.{Refusal}
-use Rattle.std.specs.Prelude.{cond, ◌&&◌, ◌==◌, nat_le}
+use Rattle.std.specs.Prelude.{ℕ, cond, ◌&&◌, List, codes, ◌==◌, nat_le}
 
 -- block for refusals 2 to 5, row for 6, sheet for the others
 abbrev pub layer_of : Refusal → Layer
 layer_of why = cond (nat_le 2 (number_of why) && nat_le (number_of why) 5) Block (cond (number_of why == 6) Row Sheet)
+
+-- the word that tells a layer
+abbrev pub layer_word : Layer → List ℕ
+layer_word Block = codes "block"
+layer_word Row = codes "row"
+layer_word Sheet = codes "sheet"
 
 -- the refusal of a judging
 abbrev pub refusal_of_judge : NotPassing → Refusal

@@ -14,20 +14,22 @@ pub struct Entry {
     pub figures: Figures,
 }
 
-impl Entry {
-    // The entry that a record of a file stands for.
-    pub(crate) fn of(record: &Record) -> Entry
-        ensures answer { result ≡ entry_of «record».now }
-    {
-        let row = record.row;
+// The entry that a record of a file stands for.
+impl From<&Record> for Entry {
+    ghost from_gives = { λ filed entry. entry ≡ entry_of filed.now };
+
+    fn from(filed: &Record) -> Entry {
+        let Record { number, row, .. } = *filed;
         Entry {
-            number: record.number as usize,
+            number: usize::from(number),
             core: row.core,
             rank: row.rank,
             figures: row.figures,
         }
     }
+}
 
+impl Entry {
     // The row that is written for it.
     pub(crate) fn row(&self) -> Row
         ensures answer { result ≡ row_of self.now }

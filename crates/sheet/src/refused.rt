@@ -1,10 +1,11 @@
 // Why a load, a judging or an ordering is refused, with what is told of it.
 ghost use Rattle.sheet.specs.Loading.{stop};
-ghost use Rattle.sheet.specs.Refused.{layer_of, refusal_of_judge, refusal_of_order};
+ghost use Rattle.sheet.specs.Refused.{layer_of, layer_word, refusal_of_judge, refusal_of_order};
 ghost use Rattle.sheet.specs.declared.refused.NotOrdered.TheVariants as not_ordered;
-ghost use Rattle.std.specs.Prelude.{◌≡◌};
+ghost use Rattle.std.specs.Prelude.{◌≡◌, Some};
 
 use ordering::order::NoOrder;
+use std::fmt;
 use table::refusal::Refusal;
 
 // Where a load met its refusal: in a block, in the figures of a row, or at the sheet.
@@ -28,6 +29,18 @@ impl Layer {
             Refusal::FigureLimits => Layer::Row,
             _ => Layer::Sheet,
         }
+    }
+}
+
+impl fmt::Display for Layer {
+    ghost output = { λ layer. Some (layer_word layer) };
+
+    fn fmt<W: fmt::Write>(&self, f: &mut fmt::Formatter<W>) -> fmt::Result {
+        f.write_str(match self {
+            Layer::Block => "block",
+            Layer::Row => "row",
+            Layer::Sheet => "sheet",
+        })
     }
 }
 

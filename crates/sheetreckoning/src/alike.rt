@@ -4,20 +4,11 @@ use naive::recurrence::Kind;
 use sheet::marks::Mark;
 use table::row::Row;
 
-// The same numbers, each compared by itself.
-fn same_row(a: &Row, b: &Row) -> bool {
-    let f = a.figures;
-    let g = b.figures;
-    let places = a.used == b.used && a.core == b.core && a.rank == b.rank;
-    let times = f.cost == g.cost && f.period == g.period && f.deadline == g.deadline;
-    places && times && f.sensitivity == g.sensitivity && f.stress == g.stress
-}
-
 // Whether a row is the model's among the first 64, or as it was lent behind them.
 fn is_kept(model: &Model, lent: &[Row], k: usize, row: &Row) -> bool {
     match lent.get(k) {
-        Some(old) if k >= 64 => same_row(row, old),
-        _ => same_row(row, &model.row(k)),
+        Some(old) if k >= 64 => row == old,
+        _ => *row == model.row(k),
     }
 }
 

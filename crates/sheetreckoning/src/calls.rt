@@ -79,6 +79,8 @@ fn load(
     Ok((answer, as_answer(beside.model.load(&file))))
 }
 
+// A match in each call that takes a test: the tests are two types, and `dyn` has no room for what each
+// prepares.
 fn judge(random: &mut Random, sheet: &mut OpenSheet<'_>, model: &mut Model) -> (Answer, Answer) {
     let core = drafts::draw_core(random, model);
     let kind = drafts::draw_kind(random);

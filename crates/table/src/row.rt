@@ -26,6 +26,7 @@ pub struct Figures {
 // A row's number is its place in the list. An unused row is empty.
 #[derive(Clone, Copy, PartialEq, Eq, Debug)]
 pub struct Row {
+    // A flag and no Option: in the memory that is lent, an unused row has figures too, and they are told.
     pub used: bool,
     pub core: u8,
     // 1 is the highest; no two tasks of a core share a rank.

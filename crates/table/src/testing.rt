@@ -8,6 +8,8 @@ use crate::board::Board;
 use crate::row::Row;
 use crate::set::TaskSet;
 
+// Board and rows go apart, here and in every function that takes both: the rows are lent to be changed
+// where an order is written, the board never is, and no fact is known of the two together.
 pub trait Test {
     // What the test keeps of a board and its rows, for many questions about them.
     type Prepared: Drop;

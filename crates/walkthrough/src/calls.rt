@@ -2,17 +2,9 @@
 use ordering::order::NoOrder;
 use promise::call::Answer;
 use sheet::marks::Mark;
-use sheet::refused::{Layer, NotOrdered, Stopped};
+use sheet::refused::{NotOrdered, Stopped};
 use std::fmt;
 use telling::counted::Counted;
-
-fn name_of(layer: Layer) -> &'static str {
-    match layer {
-        Layer::Block => "block",
-        Layer::Row => "row",
-        Layer::Sheet => "sheet",
-    }
-}
 
 #[derive(Clone, Copy)]
 struct StopTold(Stopped);
@@ -26,7 +18,6 @@ impl fmt::Display for StopTold {
             record,
             entered,
         } = self.0;
-        let layer = name_of(layer);
         write!(
             f,
             "The load stopped with refusal {cause}, of the {layer}, at record {record} of block {block}; {entered} entered"

@@ -23,7 +23,7 @@ impl OpenSheet<'_> {
         ensures answer { result ≡ done_unless (record_refusal (state_of self.old) «record».now) }
         ensures after { Becomes self.old self.new (unless (record_refusal (state_of self.old) «record».now) (entered (state_of self.old) (entry_of «record».now)) (state_of self.old)) }
     {
-        self.put(&Entry::of(record), record.fourth == 0)
+        self.put(&Entry::from(record), record.fourth == 0)
     }
 
     // Whether a block passes the checks.

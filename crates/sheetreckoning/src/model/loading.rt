@@ -77,6 +77,7 @@ fn is_spare(at: usize, count: u8) -> bool {
 }
 
 // Which part a refusal of a load belongs to.
+// Told again here: the second reckoning shares no rule with the sheet.
 fn part_of(cause: Refusal) -> Part {
     match cause {
         Refusal::FileLength | Refusal::BlockCheck | Refusal::BlockNumber | Refusal::BlockLayout =>

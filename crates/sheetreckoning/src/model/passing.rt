@@ -60,7 +60,7 @@ impl Model {
     }
 
     // The first of the unplaced tasks that has a bound with all the others above it, and how many
-    // were tried.
+    // were tried, which `find` would not tell.
     fn lowest(&self, kind: Kind, unplaced: &Numbers) -> (Option<usize>, u32) {
         let mut tried: u32 = 0;
         for number in 0..64 {
