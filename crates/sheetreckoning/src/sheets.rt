@@ -1,8 +1,8 @@
 // Random sheets, each under a list of random calls.
 use crate::calls::Beside;
 use crate::counts::Counts;
+use crate::drafts;
 use crate::model::Model;
-use crate::{calls, drafts};
 use naive::random::Random;
 use naive::tables;
 use sheet::open::OpenSheet;
@@ -39,19 +39,19 @@ pub(crate) fn one_sheet(
     let length = draw_length(random).min(70);
     let mut rows = lent;
     let mut beside = Beside {
+        sheet: OpenSheet::open(board, &mut rows[0..length]),
         model: Model::open(board, length),
         lent: &lent[0..length],
         habit: drafts::draw_habit(random),
     };
-    let mut sheet = OpenSheet::open(board, &mut rows[0..length]);
-    counts.note_opening(calls::agrees(&sheet, &beside));
+    counts.note_opening(beside.agrees());
     for _ in 0..CALLS {
-        calls::one_call(alloc, counts, random, &mut sheet, &mut beside)?;
+        beside.one_call(alloc, counts, random)?;
     }
-    let mut sheet = sheet.close().reopen();
-    counts.note_closing(calls::agrees(&sheet, &beside));
+    let mut beside = beside.reopened();
+    counts.note_closing(beside.agrees());
     for _ in 0..CALLS {
-        calls::one_call(alloc, counts, random, &mut sheet, &mut beside)?;
+        beside.one_call(alloc, counts, random)?;
     }
     Ok(())
 }
