@@ -1,7 +1,7 @@
 -- What the answers of calls tell, as numbers: 0 for an accepted call or else the number of its refusal, and then the rest.
-use Rattle.std.specs.Prelude.{ℕ, Bool, true, false, ◌&&◌, List, [], ◌∷◌, Ok, Err, Result}
+use Rattle.std.specs.Prelude.{ℕ, Bool, true, false, ◌&&◌, List, [], ◌∷◌, Some, None, Ok, Err, Option, Result}
 use Rattle.bounds.specs.Rounds.{same}
-use Rattle.promise.specs.declared.call.Answer.TheVariants.{Amended, Entered, Judged, Loaded, Ordered, Unasked, Withdrawn}
+use Rattle.promise.specs.declared.call.Answer.TheVariants.{Amended, Entered, Judged, Loaded, Ordered, Withdrawn}
 use Rattle.promise.specs.declared.call.Answer.{Answer}
 use Rattle.sheet.specs.declared.refused.NotOrdered.TheVariants as order
 use Rattle.sheet.specs.declared.refused.NotOrdered.{NotOrdered}
@@ -38,17 +38,18 @@ abbrev pub by_bound : Result ℕ Refusal → List ℕ
 by_bound (Ok b) = 0 ∷ b ∷ []
 by_bound (Err why) = number_of why ∷ []
 
-abbrev pub told_by : Answer → List ℕ
-told_by Unasked = []
-told_by (Entered r) = by_edit r
-told_by (Loaded r) = by_load r
-told_by (Withdrawn r) = by_edit r
-told_by (Amended r) = by_edit r
-told_by (Judged r) = by_judge r
-told_by (Ordered r) = by_order r
+-- nothing where there is no answer
+abbrev pub told_by : Option Answer → List ℕ
+told_by None = []
+told_by (Some (Entered r)) = by_edit r
+told_by (Some (Loaded r)) = by_load r
+told_by (Some (Withdrawn r)) = by_edit r
+told_by (Some (Amended r)) = by_edit r
+told_by (Some (Judged r)) = by_judge r
+told_by (Some (Ordered r)) = by_order r
 
 -- each answer tells what a line has for it
-abbrev pub all_told : List Answer → List (List ℕ) → Bool
+abbrev pub all_told : List (Option Answer) → List (List ℕ) → Bool
 all_told [] [] = true
 all_told [] (ns ∷ nss) = false
 all_told (a ∷ rest) [] = false

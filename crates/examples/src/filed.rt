@@ -27,7 +27,7 @@ const ROW: Row = Row {
     },
 };
 
-// All checks that a file for a board has to pass: a test's own, for a file of any length.
+// All checks that a file for a board has to pass.
 fn check_file(board: &Board, bytes: &[u8]) -> Result<(), Refusal> {
     check_length(bytes.len())?;
     let reader = Reader::new(bytes);
@@ -138,7 +138,7 @@ fn lengths(rt: HostRuntime) {
         (32_768, 0),
     ];
     for (length, number) in told {
-        let refusal = check_length(length);
+        let refusal = check_length(length).err();
         assert_eq!(rt; refusal.map_or(0, Refusal::number), number);
     }
 }

@@ -102,8 +102,6 @@ impl Question<'_> {
             .fold(0, |sum: u64, part| sum.saturating_add(part))
     }
 
-    // A resource is a number below 4 in the next three: as a type it would be taken apart at each use.
-
     // What the task of a number inflicts from one core, its releases counted from a length before
     // the window; nothing if it is not on that core.
     fn part_inflicted(&self, core: u8, j: usize, window: u64, r: usize) -> u64

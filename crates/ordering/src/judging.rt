@@ -29,8 +29,7 @@ fn higher_one(rows: &[Row], found: Option<usize>, number: usize) -> usize
     }
 }
 
-// Of the tasks that have no bound, that of highest rank. By a loop over the numbers: `min_by_key` would
-// read a rank for each that fails, and its steps say more than this does.
+// Of the tasks that have no bound, that of highest rank.
 fn highest_failing<T: Test>(asking: &Asking<'_, T>, tasks: &TaskSet) -> Option<usize>
     ensures { result ≡ unbound (T.Test.meaning asking.now.test.now asking.now.board asking.now.rows.now) asking.now.rows.now (members tasks.now) }
 {

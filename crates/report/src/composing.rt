@@ -14,7 +14,6 @@ use table::row::Row;
 use table::tasks::is_task;
 use table::testing::Test;
 
-// By the number of the core, which its line begins with: an index of `enumerate` would have to be cast.
 fn push_cores(text: &mut Text, board: &Board, marks: &[Mark; 8])
     requires { length (shown text.old) + 320 ≤ 8192 }
     ensures shows { shown text.new ≡ shown text.old ++ laid board.now.cores (line_of_core marks.now) }

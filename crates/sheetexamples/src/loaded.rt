@@ -132,9 +132,10 @@ fn settling(rt: HostRuntime) {
     assert_eq!(rt; times, [0, 3, 6, 5, 9]);
 }
 
-// The number of an answer's refusal, or 0.
-fn number_in(answer: &Answer) -> u8 {
-    answer.refusal().map_or(0, Refusal::number)
+// The number of an answer's refusal, or 0; none where there is no answer.
+fn number_in(answer: &Option<Answer>) -> Option<u8> {
+    let told = (*answer)?;
+    Some(told.refusal().map_or(0, Refusal::number))
 }
 
 // A run of every kind of call; and one with too few places for answers, which does nothing.
@@ -151,7 +152,7 @@ fn running(rt: HostRuntime) {
         Call::Order(1),
     ];
     let mut rows = [Row::EMPTY; 64];
-    let mut answers = [Answer::Unasked; 7];
+    let mut answers = [None; 7];
     let told = run(TWO_CORES, &mut rows, &Deadline, &calls, &mut answers);
     let marks = told.expect(&rt, "no room");
     assert!(rt;
@@ -160,7 +161,7 @@ fn running(rt: HostRuntime) {
     );
     assert!(rt; marks[1].is_standing());
     for (answer, number) in answers.iter().zip([0, 11, 0, 0, 0, 0, 0]) {
-        assert_eq!(rt; number_in(answer), number);
+        assert_eq!(rt; number_in(answer), Some(number));
     }
     let short = &mut answers[0..6];
     let told = run(TWO_CORES, &mut rows, &Deadline, &calls, short);

@@ -28,7 +28,7 @@ fn is_higher(rows: &[Row], number: usize, other: usize) -> bool
     }
 }
 
-// Whether a number has a task on the core. Not by `is_task`, which would look for the row twice.
+// Whether a number has a task on the core.
 fn is_on_core(rows: &[Row], core: u8, number: usize) -> bool
     ensures { result ≡ on_core rows.now core number }
 {

@@ -26,7 +26,7 @@ pub struct Figures {
 // A row's number is its place in the list. An unused row is empty.
 #[derive(Clone, Copy, PartialEq, Eq, Debug)]
 pub struct Row {
-    // A flag and no Option: in the memory that is lent, an unused row has figures too, and they are told.
+    // A flag and no Option: the rows lie in lent memory, and contracts tell of unused ones as they lie there.
     pub used: bool,
     pub core: u8,
     // 1 is the highest; no two tasks of a core share a rank.

@@ -8,8 +8,8 @@ use crate::board::Board;
 use crate::row::Row;
 use crate::set::TaskSet;
 
-// Board and rows go apart, here and in every function that takes both: the rows are lent to be changed
-// where an order is written, the board never is, and no fact is known of the two together.
+// Board and rows go apart, here and in every function that takes both: the meaning of a test is a
+// function of the two, and where an order is written the rows alone are lent to be changed.
 pub trait Test {
     // What the test keeps of a board and its rows, for many questions about them.
     type Prepared: Drop;

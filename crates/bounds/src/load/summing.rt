@@ -32,7 +32,7 @@ impl Sums {
         let n = n as u64;
         Sums {
             cost: self.cost + n * load.cost as u64,
-            // Written out: by from_fn the closure's sums would have to fit at each of its calls.
+            // Written out: tried by from_fn, and the proof did not close, since each sum has to fit at any call.
             shared: [
                 self.shared[0] + n * load.weight[0] as u64,
                 self.shared[1] + n * load.weight[1] as u64,
