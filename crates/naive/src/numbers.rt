@@ -1,6 +1,6 @@
 // A set of task numbers, for the second reckoning alone.
 ghost use Rattle.naive.specs.Sets.{members};
-ghost use Rattle.std.specs.Prelude.{◌≡◌, ◌<◌, ◌≤◌, IfSome};
+ghost use Rattle.std.specs.Prelude.{◌≡◌, ◌<◌, ◌≤◌, IfSome, slice_set};
 ghost use Rattle.table.specs.Sets.{count_below, members as handed_members, with, without};
 
 use table::set::TaskSet;
@@ -19,22 +19,27 @@ impl Numbers {
         number < 64 && self.flags[number]
     }
 
+    // The flag of a number as told, if it is one that a task can have.
+    fn mark(&mut self, number: usize, there: bool)
+        ensures { self.new.flags ≡ slice_set self.old.flags number there }
+    {
+        if number < 64 {
+            self.flags[number] = there;
+        }
+    }
+
     // One number more, if it is one that a task can have.
     pub fn put(&mut self, number: usize)
         ensures answer { members self.new ≡ with (members self.old) number }
     {
-        if number < 64 {
-            self.flags[number] = true;
-        }
+        self.mark(number, true);
     }
 
     // One number less.
     pub fn remove(&mut self, number: usize)
         ensures answer { members self.new ≡ without (members self.old) number }
     {
-        if number < 64 {
-            self.flags[number] = false;
-        }
+        self.mark(number, false);
     }
 
     // How many numbers it has.

@@ -154,8 +154,7 @@ impl From<Unsettled> for Refused {
 
 // What a sheet or its model answers, in the words that are compared.
 pub(crate) fn as_answer<T: Into<Told>, E: Into<Refused>>(answer: Result<T, E>) -> Answer {
-    match answer {
-        Ok(told) => Ok(told.into()),
-        Err(refused) => Err(refused.into()),
-    }
+    answer
+        .map(|told| told.into())
+        .map_err(|refused| refused.into())
 }

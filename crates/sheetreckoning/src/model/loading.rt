@@ -123,16 +123,14 @@ impl Model {
     // Files the records of a block after so many of the blocks before; how many there are then.
     fn load_block(&mut self, bytes: &[u8], block: usize, before: usize) -> Result<usize, Refused> {
         let start = block.saturating_mul(512);
-        if let Err(cause) = self.check_block(bytes, start, block) {
-            return Err(stop(cause, block, 0, before));
-        }
+        self.check_block(bytes, start, block)
+            .map_err(|cause| stop(cause, block, 0, before))?;
         let mut entered = before;
         for place in 0..byte(bytes, start.saturating_add(2)) {
             let record = usize::from(place);
             let at = start.saturating_add(8 + 48 * record);
-            if let Err(cause) = self.enter(&draft_at(bytes, at)) {
-                return Err(stop(cause, block, record, entered));
-            }
+            self.enter(&draft_at(bytes, at))
+                .map_err(|cause| stop(cause, block, record, entered))?;
             entered = entered.saturating_add(1);
         }
         Ok(entered)
