@@ -26,7 +26,7 @@ pub(crate) trait Pick {
         ensures { Picked (picks self.now number) (forms self.now number) result };
 }
 
-// By `push`, which cannot fail here: `collect` could, and a test may not.
+// By `push`, which cannot fail: collecting could, and a test may not.
 pub(crate) fn gather<P: Pick>(picker: &P) -> Loads
     ensures { Gathers (P.picks picker.now) (P.forms picker.now) 64 result.items }
 {

@@ -2,8 +2,8 @@
 ghost use Rattle.std.specs.Prelude.{◌≡◌, ◌<◌, ◌≤◌, true};
 ghost use Rattle.table.specs.Limits.{all_small};
 
-use arrayvec::ArrayVec;
 use least::Window;
+use shortlist::ShortList;
 
 mod making;
 mod summing;
@@ -27,7 +27,7 @@ pub(crate) struct Load {
 }
 
 // The loads of as many tasks as there can be.
-pub(crate) type Loads = ArrayVec<Load, 64>;
+pub(crate) type Loads = ShortList<Load, 64>;
 
 // Sums in one window: of execution, and of contention on each resource.
 #[derive(Clone, Copy)]

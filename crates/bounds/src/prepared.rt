@@ -20,7 +20,7 @@ pub struct CheckedTable {
 
 // The same, with the loads of all tasks on the tasks of other cores. Their releases are counted
 // from a length before the window that each number has.
-#[derive(Drop)]
+#[derive(Clone, Copy)]
 pub struct RivalTable {
     pub(crate) table: CheckedTable,
     pub(crate) ahead: Lengths,

@@ -9,7 +9,7 @@ use table::board::Board;
 use table::task::Task;
 
 // A task and the loads of those that count as higher.
-#[derive(Drop)]
+#[derive(Clone, Copy)]
 pub(crate) struct Own {
     pub(crate) task: Task,
     pub(crate) higher: Loads,

@@ -1,14 +1,17 @@
 // An order, and what a search for one answers.
-use arrayvec::ArrayVec;
+ghost use Rattle.std.specs.Prelude.{◌≤◌, length};
+
+use shortlist::ShortList;
 
 // The numbers of the tasks, from the lowest place up.
-#[derive(Clone, Debug, Drop)]
+#[derive(Clone, Copy, Debug)]
 pub struct Order {
-    pub numbers: ArrayVec<usize, 64>,
+    pub numbers: ShortList<usize, 64>,
+    ghost few: { length numbers.items ≤ 64 },
 }
 
 // An order that was found, and how many tasks were tried over all its places.
-#[derive(Clone, Debug, Drop)]
+#[derive(Clone, Copy, Debug)]
 pub struct Found {
     pub order: Order,
     pub trials: u32,

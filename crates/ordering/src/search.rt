@@ -6,7 +6,7 @@ ghost use Rattle.table.specs.Rows.{on_core};
 ghost use Rattle.table.specs.Sets.{members};
 
 use crate::order::{Found, NoOrder, Order};
-use arrayvec::ArrayVec;
+use shortlist::ShortList;
 use table::asking::Asking;
 use table::board::Board;
 use table::row::Row;
@@ -51,7 +51,7 @@ fn fill_places<T: Test>(asking: &Asking<'_, T>, tasks: TaskSet) -> Result<Found,
 {
     let mut left = tasks;
     let count = left.size();
-    let mut numbers = ArrayVec::new();
+    let mut numbers = ShortList::new();
     let mut trials = 0;
     for placed in 0..count {
         let taker = find_taker(asking, &left);

@@ -1,9 +1,12 @@
 // Text that is put together in memory of its own: at most 8,192 bytes, more than any report has.
-use arrayvec::ArrayVec;
+ghost use Rattle.std.specs.Prelude.{◌≤◌, length};
+
+use shortlist::ShortList;
 
 mod adding;
 
-#[derive(Clone, Drop)]
+#[derive(Clone, Copy)]
 pub struct Text {
-    bytes: ArrayVec<u8, 8192>,
+    bytes: ShortList<u8, 8192>,
+    ghost few: { length bytes.items ≤ 8192 },
 }

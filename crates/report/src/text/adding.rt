@@ -3,7 +3,7 @@ ghost use Rattle.std.specs.Prelude.{◌≡◌, ◌+◌, ◌≤◌, [], ◌++◌,
 ghost use Rattle.report.specs.Texts.{copied, copy_answer, shown};
 
 use crate::text::Text;
-use arrayvec::ArrayVec;
+use shortlist::ShortList;
 use table::refusal::Refusal;
 
 impl Text {
@@ -11,7 +11,7 @@ impl Text {
         ensures shows { shown result ≡ [] }
     {
         Text {
-            bytes: ArrayVec::new(),
+            bytes: ShortList::new(),
         }
     }
 
@@ -36,13 +36,12 @@ impl Text {
         Ok(text.len())
     }
 
-    // There is room for them, so none is left out.
     pub(crate) fn push_bytes(&mut self, bytes: &[u8])
         requires { length (shown self.old) + length bytes.now ≤ 8192 }
         ensures shows { shown self.new ≡ shown self.old ++ bytes.now }
         ensures long { length (shown self.new) ≡ length (shown self.old) + length bytes.now }
     {
-        let _ = self.bytes.try_extend_from_slice(bytes);
+        self.bytes.push_all(bytes);
     }
 
     // A number in decimal: at most twenty digits.

@@ -1,4 +1,4 @@
-use Rattle.std.proofs.Common.{◌+◌, ◌≤◌, length, sym, subst, arith}
+use Rattle.std.proofs.Common.{◌+◌, ◌<◌, ◌≤◌, length, sym, subst, arith}
 use Rattle.bounds.proofs.Gathered.{gathers_no, gathers_none, gathers_yes}
 use Rattle.bounds.proofs.gathering.gather.Goals as goal
 use Rattle.bounds.proofs.gathering.gather.Goals.{in-Some, in_default}
@@ -15,8 +15,9 @@ loop-number-preserved g c =
     elim c.match-pick.branch [
       | in-Some w ↦
           let picked = w.in-Some.ensures in
+          let room : length c.loop-number.loads.items < 64 = omega (arith, c.loop-number.invariant.0, c.loop-number-test.true) in
           subst (λ x. (length x.items ≤ j + 1) × Gathers picks forms (j + 1) x.items) (sym w.loads-is)
-          (omega (arith, w.push.ensures.len, c.loop-number.invariant.0), subst (Gathers picks forms (j + 1)) (sym w.push.ensures.items) (gathers_yes picks forms j c.loop-number.loads.items w.in-Some.load picked.0 picked.1 c.loop-number.invariant.1))
+          (omega (arith, w.push.ensures.len room, c.loop-number.invariant.0), subst (Gathers picks forms (j + 1)) (sym (w.push.ensures.room room)) (gathers_yes picks forms j c.loop-number.loads.items w.in-Some.load picked.0 picked.1 c.loop-number.invariant.1))
       | in_default w ↦
           subst (λ x. (length x.items ≤ j + 1) × Gathers picks forms (j + 1) x.items) (sym w.loads-is)
           (omega (arith, c.loop-number.invariant.0), gathers_no picks forms j c.loop-number.loads.items w.in_default.ensures c.loop-number.invariant.1)

@@ -50,16 +50,17 @@ loop-placed-preserved g c =
     let p = c.loop-placed.placed in
     let xs = c.loop-placed.numbers.items in
     let taker = c.find_taker-taker in
+    let room : length xs < 64 = omega (arith, c.loop-placed.invariant.2, c.loop-placed.invariant.3, c.loop-placed-test.true) in
     let found : first_taker ask U ≡ Some k = sym taker.ensures.number ∙ c.in-Some.is in
     let tries : taker.result.trials ≡ tried U (Some k) = taker.ensures.trials ∙ ap (tried U) c.in-Some.is in (
-      ap (λ ys. after ys (c.loop-placed.trials + taker.result.trials) (fill ask (members c.without-left.result) (n - (p + 1)))) c.push.ensures.items
+      ap (λ ys. after ys (c.loop-placed.trials + taker.result.trials) (fill ask (members c.without-left.result) (n - (p + 1)))) (c.push.ensures.room room)
           ∙ ap (λ V. after (xs ++ k ∷ []) (c.loop-placed.trials + taker.result.trials) (fill ask V (n - (p + 1)))) c.without-left.ensures.answer
           ∙ ap (λ t. after (xs ++ k ∷ []) (c.loop-placed.trials + t) (fill ask (without U k) (n - (p + 1)))) tries
           ∙ sym (fill_next ask U n p k c.loop-placed.trials xs c.loop-placed-test.true found)
           ∙ c.loop-placed.invariant.0,
       omega (arith, c.loop-placed.invariant.1, taker.ensures.trials, few ask U taker.result.number taker.ensures.number),
       c.loop-placed.invariant.2,
-      omega (arith, c.push.ensures.len, c.loop-placed.invariant.3),
+      omega (arith, c.push.ensures.len room, c.loop-placed.invariant.3),
     )
 
 pub returns : goal.returns

@@ -1,5 +1,4 @@
-use Rattle.std.proofs.Common.{◌≡◌, ◌-◌, ◌*◌, ◌≤◌}
-use Rattle.arrayvec.specs.ArrayVec.{array_vec_len}
+use Rattle.std.proofs.Common.{◌≡◌, ◌-◌, ◌*◌, ◌≤◌, length}
 use Rattle.ordering.proofs.search.fill_places.Given as goal
 use Rattle.ordering.specs.Search.{after, fill, search_for}
 use Rattle.table.specs.Sets.{members}
@@ -11,4 +10,4 @@ invariant-loop-placed g l =
     (after l.numbers.items l.trials (fill ask (members l.left) (l.count - l.placed)) ≡ search_for ask (members l.initial.left))
     × (l.trials ≤ 64 * l.placed)
     × (l.count ≤ 64)
-    × (array_vec_len l.numbers ≡ l.placed)
+    × (length l.numbers.items ≡ l.placed)

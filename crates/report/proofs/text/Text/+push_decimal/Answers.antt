@@ -24,14 +24,15 @@ one start front n low e =
       short = omega (arith, ap length e);
     }
 
-pub push-requires : goal.push-requires
-push-requires t c =
+pub invariant_of-self : goal.invariant_of-self
+invariant_of-self t c =
     let before : Before (shown c.args.self.now) c.if-n-ge10.self.bytes.items c.args.n =
     elim c.if-n-ge10.branch [
       | then-n-ge10 w ↦ more (shown c.args.self.now) c.if-n-ge10.self.bytes.items c.args.n w.if-n-ge10.true c.ranges.n.fits (ap shown w.self-is ∙ w.push_decimal.ensures.shows)
       | else-n-ge10 w ↦ one (shown c.args.self.now) c.if-n-ge10.self.bytes.items c.args.n (omega (arith, w.if-n-ge10.false)) (ap shown w.self-is)
     ] in
-    (omega arith, omega (arith, c.requires, before.short))
+    let room : length c.if-n-ge10.self.bytes.items < 8192 = omega (arith, c.requires, before.short) in
+    omega (arith, c.requires, c.push.ensures.len room, before.short)
 
 pub returns : goal.returns
 returns t c =
@@ -40,4 +41,5 @@ returns t c =
       | then-n-ge10 w ↦ more (shown c.args.self.now) c.if-n-ge10.self.bytes.items c.args.n w.if-n-ge10.true c.ranges.n.fits (ap shown w.self-is ∙ w.push_decimal.ensures.shows)
       | else-n-ge10 w ↦ one (shown c.args.self.now) c.if-n-ge10.self.bytes.items c.args.n (omega (arith, w.if-n-ge10.false)) (ap shown w.self-is)
     ] in
-    record { shows = c.push.ensures.items ∙ before.shows; near = omega (arith, c.push.ensures.len, before.short) }
+    let room : length c.if-n-ge10.self.bytes.items < 8192 = omega (arith, c.requires, before.short) in
+    record { shows = c.push.ensures.room room ∙ before.shows; near = omega (arith, c.push.ensures.len room, before.short) }
