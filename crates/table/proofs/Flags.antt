@@ -1,8 +1,8 @@
 -- Sets as lists of flags. Flags made place by place from a set are that set; taking a number out clears its flag; and a
 -- set is counted member by member.
-use Rattle.std.proofs.Common.{◌≡◌, ℕ, zero, suc, ◌+◌, ◌-◌, ◌<◌, ◌≤◌, Bool, true, false, not, ◌&&◌, eqb, ◌⊎◌, List, [], ◌∷◌, ◌++◌, map, filter, length, get_or, set, cond, sym, refl, ap, ◌∙◌, subst, inl, inr, ⊎_elim, suc-add, zero-add, add-one, arith}
-use Rattle.std.proofs.lemmas.List.FromFn.{filter_of_map_range_with_len_more, get_or-map-range_with_len, length-map-range_with_len}
-use Rattle.std.proofs.lemmas.List.{get_or_past, length-append, get_or-set_other, get_or-set_same, set_past}
+use Rattle.std.proofs.Common.{◌≡◌, ℕ, zero, suc, ◌+◌, ◌-◌, ◌<◌, ◌≤◌, Bool, true, false, not, ◌&&◌, eqb, ◌⊎◌, List, map, length, get_or, set, sym, refl, ap, ◌∙◌, subst, inl, inr, ⊎_elim, suc-add, zero-add, add-one, arith}
+use Rattle.std.proofs.lemmas.List.FromFn.{get_or-map-range_with_len, length-map-range_with_len}
+use Rattle.std.proofs.lemmas.List.{get_or_past, get_or-set_other, get_or-set_same, set_past}
 use Rattle.std.proofs.lemmas.Bool.{and_parts, cases_eq, cases_lt, eq-eqb, ne_eqb}
 use Rattle.table.specs.Sets.{Set, Within, count_below, without}
 use Rattle.std.specs.List.{range_with_len}
@@ -104,16 +104,6 @@ count_same U V (suc n) h = let e = h n (omega arith) in let r = count_same U V n
 
 count_step : (U V : Set) (n : ℕ) → U n ≡ V n → count_below U n ≡ count_below V n + 1 → count_below U (suc n) ≡ count_below V (suc n) + 1
 count_step U V n e r = by_member U n (count_below U (suc n) ≡ count_below V (suc n) + 1) (λ h. omega (arith, count_in U n h, count_in V n (sym e ∙ h))) (λ h. omega (arith, count_out U n h, count_out V n (sym e ∙ h)))
-
--- to count is to list them, and to take the length
-pub count_listed : (U : Set) (n : ℕ) → length (filter U (map (λ k. k) (range_with_len 0 n))) ≡ count_below U n
-count_listed U zero = sym (count_zero U)
-count_listed U (suc n) =
-    let xs = filter U (map (λ k. k) (range_with_len 0 n)) in
-    let more = ap (λ m. length (filter U (map (λ k. k) (range_with_len 0 m)))) (sym (add-one n)) ∙ ap length (filter_of_map_range_with_len_more U (λ k. k) 0 n n (zero-add n)) in
-    by_member U n (length (filter U (map (λ k. k) (range_with_len 0 (suc n)))) ≡ count_below U (suc n))
-    (λ e. omega (arith, more ∙ ap (λ b. length (xs ++ cond b (n ∷ []) [])) e ∙ length-append xs (n ∷ []), count_listed U n, count_in U n e))
-    (λ e. omega (arith, more ∙ ap (λ b. length (xs ++ cond b (n ∷ []) [])) e ∙ length-append xs [], count_listed U n, count_out U n e))
 
 -- taking a member out makes one less
 pub count_without : (U : Set) (k n : ℕ) → k < n → U k ≡ true → count_below U n ≡ count_below (without U k) n + 1

@@ -56,10 +56,12 @@ impl Row {
     }
 }
 
+// Taken apart: every look at a row asks this, and by an iterator it takes half as long again.
 fn are_small(xs: &[u32; 4]) -> bool
     ensures { result ≡ all_small xs.now }
 {
-    xs.iter().all(|x| *x <= MOST)
+    let [a, b, c, d] = *xs;
+    (a <= MOST) & (b <= MOST) & (c <= MOST) & (d <= MOST)
 }
 
 // Whether it is 0 for each resource that a board with so many lacks.

@@ -5,7 +5,6 @@ ghost use Rattle.std.specs.Prelude.{◌≡◌};
 
 use crate::row::Row;
 use crate::task::Task;
-use std::array;
 
 // How many numbers there are: rows from this place on are no tasks.
 pub const NUMBERS: usize = 64;
@@ -39,12 +38,15 @@ fn task_at(rows: &[Row], number: usize) -> Option<Task>
 }
 
 impl Tasks {
+    // In place: `array::from_fn` would move all of them once more, and every question begins here.
     pub fn of(rows: &[Row]) -> Tasks
         ensures answer { listed result ≡ plain rows.now }
     {
-        Tasks {
-            slots: array::from_fn(|number| task_at(rows, number)),
+        let mut slots = [None; NUMBERS];
+        for (number, slot) in slots.iter_mut().enumerate() {
+            *slot = task_at(rows, number);
         }
+        Tasks { slots }
     }
 
     // The task of a number, if it has one.

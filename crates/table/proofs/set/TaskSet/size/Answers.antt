@@ -1,13 +1,21 @@
-use Rattle.std.proofs.Common.{rules, refl, ◌∙◌}
-use Rattle.std.proofs.lemmas.Iterator.{YieldsList-from_range}
-use Rattle.std.proofs.lemmas.Iterator.Consumers.{YieldsList-from_filter, count_from_yields_List}
-use Rattle.table.proofs.Flags.{count_listed}
+use Rattle.table.proofs.Flags.{count_in_more, count_out_more, count_zero}
 use Rattle.table.proofs.set.TaskSet.size.Goals as goal
-use Rattle.table.specs.Sets.{members}
+use Rattle.table.proofs.set.TaskSet.size.Goals.{else-self-k, then-self-k}
+use Rattle.table.specs.Sets.{count_below, members}
+use Rattle.std.proofs.Common.{◌≡◌, sym, ap, ◌∙◌, arith}
+
+pub loop-k-init : goal.loop-k-init
+loop-k-init c = (sym (count_zero (members c.args.self.now)), omega arith)
+
+pub loop-k-preserved : goal.loop-k-preserved
+loop-k-preserved c =
+    let set = members c.args.self.now in
+    elim c.if-self-k.branch [
+      | then-self-k w ↦ (w.n-is ∙ count_in_more set c.loop-k.k c.loop-k.n c.loop-k.invariant.0 w.if-self-k.true, omega (arith, w.n-is, c.loop-k.invariant.1))
+      | else-self-k w ↦ (w.n-is ∙ count_out_more set c.loop-k.k c.loop-k.n c.loop-k.invariant.0 w.if-self-k.false, omega (arith, w.n-is, c.loop-k.invariant.1))
+    ]
 
 pub returns : goal.returns
 returns c =
-    let set = members c.args.self.now in
-    record {
-      answer = count_from_yields_List _ _ c.count.ensures.ran (YieldsList-from_filter _ set (YieldsList-from_range 0 64 64 (c.filter.ensures.source) refl) c.filter.ensures.closure (λ x b q k. search rules)) ∙ count_listed set 64;
-    }
+    let last : c.loop-k.k ≡ 64 = omega (arith, c.loop-k-test.false, c.loop-k.auto.k-end) in
+    record { answer = c.loop-k.invariant.0 ∙ ap (count_below (members c.args.self.now)) last }
