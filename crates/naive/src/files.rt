@@ -2,27 +2,47 @@
 ghost use Rattle.naive.specs.Answers.{words_of};
 ghost use Rattle.std.specs.Prelude.{◌≡◌, ◌<◌, ◌≤◌};
 
-use crate::numbers::Numbers;
 use crate::recurrence::task;
-use std::array;
+use arrayvec::ArrayVec;
 use table::board::Board;
 use table::row::{Figures, Row};
 
-// What a file holds: the tasks of a table, by rising number.
+// A task of the table, with its number.
 #[derive(Clone, Copy)]
-pub(crate) struct Filed<'a> {
-    pub(crate) board: Board,
-    pub(crate) rows: &'a [Row],
-    pub(crate) numbers: Numbers,
+struct Numbered {
+    number: u8,
+    row: Row,
 }
 
-pub(crate) fn file_of<'a>(board: &Board, rows: &'a [Row]) -> Filed<'a> {
+// What an unused place of a list holds.
+impl Default for Numbered {
+    fn default() -> Numbered {
+        Numbered {
+            number: 0,
+            row: Row::EMPTY,
+        }
+    }
+}
+
+// What a file holds: the tasks of a table, by rising number. They are listed once, since each byte of
+// a record asks for its task.
+#[derive(Drop)]
+pub(crate) struct Filed {
+    board: Board,
+    tasks: ArrayVec<Numbered, 64>,
+}
+
+pub(crate) fn file_of(board: &Board, rows: &[Row]) -> Filed {
+    let mut tasks = ArrayVec::new();
+    for number in 0..64 {
+        if let Some(row) = task(rows, usize::from(number)) {
+            // There are as many places as numbers.
+            let _ = tasks.try_push(Numbered { number, row });
+        }
+    }
     Filed {
         board: *board,
-        rows,
-        numbers: Numbers {
-            flags: array::from_fn(|k| task(rows, k).is_some()),
-        },
+        tasks,
     }
 }
 
@@ -41,34 +61,30 @@ pub fn words(figures: &Figures) -> [u32; 11]
     [cost, period, deadline, x0, x1, x2, x3, y0, y1, y2, y3]
 }
 
-fn record_byte(number: usize, row: &Row, at: usize) -> u8
-    requires number { number < 64 }
-    requires at { at < 48 }
+fn record_byte(task: &Numbered, at: usize) -> u8
+    requires { at < 48 }
 {
     match at {
-        0 => number as u8,
-        1 => row.core,
-        2 => row.rank,
+        0 => task.number,
+        1 => task.row.core,
+        2 => task.row.rank,
         3 => 0,
-        _ => words(&row.figures)[at / 4 - 1].to_be_bytes()[at % 4],
+        _ => words(&task.row.figures)[at / 4 - 1].to_be_bytes()[at % 4],
     }
 }
 
-impl Filed<'_> {
+impl Filed {
     // How many bytes the file has: another block for each ten tasks that are full.
     pub(crate) fn size(&self) -> usize {
-        512 * self.numbers.count().div_ceil(10).max(1)
+        512 * self.tasks.len().div_ceil(10).max(1)
     }
 
     // A byte of the k-th record, or of the place where it would be.
     fn listed_byte(&self, k: usize, at: usize) -> u8
         requires { at < 48 }
     {
-        match self.numbers.nth(k) {
-            Some(number) => match task(self.rows, number) {
-                Some(row) => record_byte(number, &row, at),
-                None => 0,
-            },
+        match self.tasks.get(k) {
+            Some(task) => record_byte(task, at),
             None => 0,
         }
     }
@@ -80,7 +96,7 @@ impl Filed<'_> {
         let before = block * 10;
         match at {
             1 => block as u8,
-            2 => self.numbers.count().saturating_sub(before).min(10) as u8,
+            2 => self.tasks.len().saturating_sub(before).min(10) as u8,
             3 => self.board.cores,
             4 => self.board.resources,
             8..488 => self.listed_byte(before + (at - 8) / 48, (at - 8) % 48),

@@ -16,7 +16,7 @@ const ROOM: usize = 3600;
 const BEFORE: u8 = 0xa5;
 
 // The first `size` bytes are the file's, and the others are as before.
-fn is_written(file: &Filed<'_>, size: usize, out: &[u8]) -> bool {
+fn is_written(file: &Filed, size: usize, out: &[u8]) -> bool {
     out.iter().enumerate().all(|(k, found)| {
         let expected = if k < size { file.byte(k) } else { BEFORE };
         *found == expected
