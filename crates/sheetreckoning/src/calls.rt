@@ -1,5 +1,5 @@
 // Calls on a sheet and on its model, side by side.
-use crate::answers::{Answer, Detail, Refused, as_answer};
+use crate::answers::{Answer, Cause, Refused, as_answer};
 use crate::counts::{Call, Counts};
 use crate::drafts::Habit;
 use crate::model::Model;
@@ -10,7 +10,6 @@ use naive::random::Random;
 use naive::recurrence::Kind;
 use sheet::entry::Entry;
 use sheet::open::OpenSheet;
-use table::refusal::Refusal;
 use table::row::Row;
 use table::testing::Test;
 
@@ -133,13 +132,7 @@ impl Beside<'_> {
         if times == expected {
             (answer, answer_too)
         } else {
-            (
-                answer,
-                Err(Refused {
-                    refusal: Refusal::NoBound,
-                    detail: Detail::Open,
-                }),
-            )
+            (answer, Err(Refused::from(Cause::Open)))
         }
     }
 
@@ -158,7 +151,7 @@ impl Beside<'_> {
             Call::Settle => self.settle(random),
         };
         let same = answer == expected && self.agrees();
-        counts.note(call, expected.err().map(|refused| refused.refusal), same);
+        counts.note(call, expected.err().map(|refused| refused.cause), same);
     }
 
     // The sheet closed and opened again.
