@@ -5,6 +5,73 @@ use table::refusal::Refusal;
 
 pub(crate) type Answer = Result<Told, Refused>;
 
+// Why a call is refused.
+// Told again here: the model shares no refusal with the sheet.
+#[derive(Clone, Copy, PartialEq, Eq)]
+pub(crate) enum Cause {
+    FileLength,
+    BlockCheck,
+    BlockNumber,
+    BlockLayout,
+    FigureLimits,
+    NumberTooLarge,
+    NumberOccupied,
+    NumberEmpty,
+    CoreLacking,
+    RankUnavailable,
+    NoOrder,
+    NoBound,
+    BufferTooShort,
+    // Any other refusal, which no model answers.
+    Unknown,
+    // No end was found in the rounds that were tried: equal to nothing that a sheet answers.
+    Open,
+}
+
+impl Cause {
+    // The number of the refusal, or 0 where it is none of the model's.
+    pub(crate) fn number(self) -> u8 {
+        match self {
+            Cause::FileLength => 2,
+            Cause::BlockCheck => 3,
+            Cause::BlockNumber => 4,
+            Cause::BlockLayout => 5,
+            Cause::FigureLimits => 6,
+            Cause::NumberTooLarge => 7,
+            Cause::NumberOccupied => 8,
+            Cause::NumberEmpty => 9,
+            Cause::CoreLacking => 10,
+            Cause::RankUnavailable => 11,
+            Cause::NoOrder => 12,
+            Cause::NoBound => 13,
+            Cause::BufferTooShort => 14,
+            Cause::Unknown | Cause::Open => 0,
+        }
+    }
+}
+
+// By its number alone, so that the two are compared by what people are told.
+impl From<Refusal> for Cause {
+    fn from(refusal: Refusal) -> Cause {
+        match refusal.number() {
+            2 => Cause::FileLength,
+            3 => Cause::BlockCheck,
+            4 => Cause::BlockNumber,
+            5 => Cause::BlockLayout,
+            6 => Cause::FigureLimits,
+            7 => Cause::NumberTooLarge,
+            8 => Cause::NumberOccupied,
+            9 => Cause::NumberEmpty,
+            10 => Cause::CoreLacking,
+            11 => Cause::RankUnavailable,
+            12 => Cause::NoOrder,
+            13 => Cause::NoBound,
+            14 => Cause::BufferTooShort,
+            _ => Cause::Unknown,
+        }
+    }
+}
+
 // What is told where the call is accepted.
 #[derive(Clone, Copy, PartialEq, Eq)]
 pub(crate) enum Told {
@@ -46,13 +113,11 @@ pub(crate) enum Detail {
         record: usize,
         entered: usize,
     },
-    // No end was found in the rounds that were tried: equal to nothing that a sheet answers.
-    Open,
 }
 
 #[derive(Clone, Copy, PartialEq, Eq)]
 pub(crate) struct Refused {
-    pub(crate) refusal: Refusal,
+    pub(crate) cause: Cause,
     pub(crate) detail: Detail,
 }
 
@@ -84,19 +149,25 @@ impl From<Layer> for Part {
     }
 }
 
-impl From<Refusal> for Refused {
-    fn from(refusal: Refusal) -> Refused {
+impl From<Cause> for Refused {
+    fn from(cause: Cause) -> Refused {
         Refused {
-            refusal,
+            cause,
             detail: Detail::Nothing,
         }
+    }
+}
+
+impl From<Refusal> for Refused {
+    fn from(refusal: Refusal) -> Refused {
+        Refused::from(Cause::from(refusal))
     }
 }
 
 impl From<Stopped> for Refused {
     fn from(stopped: Stopped) -> Refused {
         Refused {
-            refusal: stopped.cause,
+            cause: Cause::from(stopped.cause),
             detail: Detail::Stopped {
                 part: Part::from(stopped.layer),
                 block: usize::from(stopped.block),
@@ -114,7 +185,7 @@ impl From<NotPassing> for Refused {
             NotPassing::NoBound(task) => Detail::Unbound(task),
         };
         Refused {
-            refusal: refused.refusal(),
+            cause: Cause::from(refused.refusal()),
             detail,
         }
     }
@@ -130,7 +201,7 @@ impl From<NotOrdered> for Refused {
             },
         };
         Refused {
-            refusal: refused.refusal(),
+            cause: Cause::from(refused.refusal()),
             detail,
         }
     }
@@ -146,7 +217,7 @@ impl From<Unsettled> for Refused {
             },
         };
         Refused {
-            refusal: refused.refusal(),
+            cause: Cause::from(refused.refusal()),
             detail,
         }
     }

@@ -1,5 +1,5 @@
 // Calls on a sheet and on its model, side by side.
-use crate::answers::{Answer, Detail, Refused, as_answer};
+use crate::answers::{Answer, Cause, Refused, as_answer};
 use crate::counts::{Call, Counts};
 use crate::drafts::Habit;
 use crate::model::Model;
@@ -10,8 +10,6 @@ use naive::random::Random;
 use naive::recurrence::Kind;
 use sheet::entry::Entry;
 use sheet::open::OpenSheet;
-use std::alloc::{AllocError, Global};
-use table::refusal::Refusal;
 use table::row::Row;
 use table::testing::Test;
 
@@ -77,10 +75,12 @@ impl Beside<'_> {
         )
     }
 
-    fn load(&mut self, alloc: Global, random: &mut Random) -> Result<(Answer, Answer), AllocError> {
-        let file = making::draw_file(alloc, random, &self.model, &self.habit)?;
-        let answer = as_answer(self.sheet.load(&file));
-        Ok((answer, as_answer(self.model.load(&file))))
+    fn load(&mut self, random: &mut Random) -> (Answer, Answer) {
+        let file = making::draw_file(random, &self.model, &self.habit);
+        (
+            as_answer(self.sheet.load(&file)),
+            as_answer(self.model.load(&file)),
+        )
     }
 
     // A match in each call that takes a test: the tests are two types, and `dyn` has no room for what
@@ -132,38 +132,26 @@ impl Beside<'_> {
         if times == expected {
             (answer, answer_too)
         } else {
-            (
-                answer,
-                Err(Refused {
-                    refusal: Refusal::NoBound,
-                    detail: Detail::Open,
-                }),
-            )
+            (answer, Err(Refused::from(Cause::Open)))
         }
     }
 
     // One random call, and whether the sheet and its model still agree.
-    pub(crate) fn one_call(
-        &mut self,
-        alloc: Global,
-        counts: &mut Counts,
-        random: &mut Random,
-    ) -> Result<(), AllocError> {
+    pub(crate) fn one_call(&mut self, counts: &mut Counts, random: &mut Random) {
         let crowded = self.model.count() > self.habit.crowd;
         let call = draw_call(random, crowded);
         let (answer, expected) = match call {
             Call::Enter => self.enter(random),
             Call::Withdraw => self.withdraw(random),
             Call::Amend => self.amend(random),
-            Call::Load => self.load(alloc, random)?,
+            Call::Load => self.load(random),
             Call::Judge => self.judge(random),
             Call::Order => self.order(random),
             Call::Bound => self.bound(random),
             Call::Settle => self.settle(random),
         };
         let same = answer == expected && self.agrees();
-        counts.note(call, expected.err().map(|refused| refused.refusal), same);
-        Ok(())
+        counts.note(call, expected.err().map(|refused| refused.cause), same);
     }
 
     // The sheet closed and opened again.

@@ -1,7 +1,7 @@
 // How many calls of each kind were compared, and how often each refusal was met.
+use crate::answers::Cause;
 use naive::tally::Tally;
 use std::{fmt, io};
-use table::refusal::Refusal;
 
 // The kinds of calls on a sheet.
 #[derive(Clone, Copy)]
@@ -74,12 +74,14 @@ impl Counts {
     }
 
     // A call, why it is refused, if it is, and whether the answers are the same.
-    pub(crate) fn note(&mut self, call: Call, refusal: Option<Refusal>, same: bool) {
+    pub(crate) fn note(&mut self, call: Call, cause: Option<Cause>, same: bool) {
+        // A settling whose end was not found is not refused.
+        let refused = cause.filter(|cause| *cause != Cause::Open);
         if let Some(tally) = self.calls.get_mut(call as usize) {
-            tally.note(refusal.is_none(), same);
+            tally.note(refused.is_none(), same);
         }
-        if let Some(refusal) = refusal {
-            if let Some(count) = self.refusals.get_mut(usize::from(refusal.number())) {
+        if let Some(cause) = refused {
+            if let Some(count) = self.refusals.get_mut(usize::from(cause.number())) {
                 *count = count.saturating_add(1);
             }
         }

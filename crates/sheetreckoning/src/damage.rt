@@ -1,8 +1,7 @@
 // Damage to a file: to its length, to a byte, or to a field of a block whose check is made good.
-use crate::making::{make_good, put};
+use crate::making::{File, make_good, put, resize};
 use crate::model::loading::byte;
 use naive::random::Random;
-use std::alloc::AllocError;
 
 // A block of the file.
 fn draw_block(random: &mut Random, file: &[u8]) -> usize {
@@ -29,14 +28,14 @@ fn flip(random: &mut Random, file: &mut [u8], start: usize) {
 }
 
 // Another length: none, any, whole blocks, or one byte less.
-fn cut(random: &mut Random, file: &mut Vec<u8>) -> Result<(), AllocError> {
+fn cut(random: &mut Random, file: &mut File) {
     let length = match random.below(4) {
         0 => 0,
         1 => random.below(1600) as usize,
         2 => 512 * (1 + random.below(65) as usize),
         _ => file.len().saturating_sub(1),
     };
-    file.resize(length, 0)
+    resize(file, length);
 }
 
 // A field of a block becomes another; its check is not yet made good.
@@ -64,11 +63,11 @@ fn alter(random: &mut Random, file: &mut [u8], start: usize) {
     }
 }
 
-pub(crate) fn spoil(random: &mut Random, file: &mut Vec<u8>) -> Result<(), AllocError> {
+pub(crate) fn spoil(random: &mut Random, file: &mut File) {
     let block = draw_block(random, file);
     let start = block.saturating_mul(512);
     match random.below(8) {
-        0 => return cut(random, file),
+        0 => cut(random, file),
         1 => flip(random, file, start),
         2 | 3 => {
             flip(random, file, start);
@@ -79,5 +78,4 @@ pub(crate) fn spoil(random: &mut Random, file: &mut Vec<u8>) -> Result<(), Alloc
             make_good(file, block);
         }
     }
-    Ok(())
 }

@@ -43,7 +43,7 @@ fn try_sheets(rt: &HostRuntime) -> io::Result<()> {
     let mut random = Random::new(20261118);
     let mut counts = Counts::new();
     for _ in 0..SHEETS {
-        sheets::one_sheet(rt.alloc(), &mut counts, &mut random)?;
+        sheets::one_sheet(&mut counts, &mut random);
     }
     println!(rt; "sheets {SHEETS}")?;
     counts.show(rt)

@@ -2,9 +2,23 @@
 use crate::drafts::Habit;
 use crate::model::{Draft, Model, loading};
 use crate::{damage, drafts};
+use arrayvec::ArrayVec;
 use naive::files::words;
 use naive::random::Random;
-use std::alloc::{AllocError, Global};
+
+// One block more than a file may have.
+const ROOM: usize = 33_280;
+
+// There is always room for a file, so that no write fails, and what one answers is let go.
+pub(crate) type File = ArrayVec<u8, ROOM>;
+
+// Another length: the first bytes, or zeros behind the end.
+pub(crate) fn resize(file: &mut File, length: usize) {
+    file.truncate(length);
+    for _ in file.len()..length.min(ROOM) {
+        let _ = file.try_push(0);
+    }
+}
 
 // Another value for a byte, if there is such a byte.
 pub(crate) fn put(file: &mut [u8], at: usize, value: u8) {
@@ -21,14 +35,13 @@ pub(crate) fn make_good(file: &mut [u8], block: usize) {
     put(file, start.saturating_add(511), low);
 }
 
-fn write_record(file: &mut Vec<u8>, draft: &Draft) -> Result<(), AllocError> {
+fn write_record(file: &mut File, draft: &Draft) {
     let number = (draft.number % 256) as u8;
     let filed = draft.filed;
-    file.extend_from_slice(&[number, filed.core, filed.rank, draft.fourth])?;
+    let _ = file.try_extend_from_slice(&[number, filed.core, filed.rank, draft.fourth]);
     for word in words(&filed.figures) {
-        file.extend_from_slice(&word.to_be_bytes())?;
+        let _ = file.try_extend_from_slice(&word.to_be_bytes());
     }
-    Ok(())
 }
 
 // How many records a block has: few in a file of many blocks.
@@ -75,54 +88,43 @@ struct Drawing<'a> {
 
 // One block more, of so many.
 fn write_block(
-    file: &mut Vec<u8>,
+    file: &mut File,
     random: &mut Random,
     drawing: &mut Drawing<'_>,
     block: usize,
     blocks: usize,
-) -> Result<(), AllocError> {
+) {
     let count = draw_count(random, blocks);
     let board = drawing.ahead.board;
     let number = (block % 256) as u8;
-    file.extend_from_slice(&[0, number, count, board.cores, board.resources, 0, 0, 0])?;
+    let _ = file.try_extend_from_slice(&[0, number, count, board.cores, board.resources, 0, 0, 0]);
     for _ in 0..count {
         let draft = draw_record(random, &mut drawing.ahead, drawing.habit, drawing.any);
-        write_record(file, &draft)?;
+        write_record(file, &draft);
     }
-    file.resize(block.saturating_add(1).saturating_mul(512), 0)?;
+    resize(file, block.saturating_add(1).saturating_mul(512));
     make_good(file, block);
-    Ok(())
 }
 
 // A file whose blocks are sound; in half of them the records are too, nearly always.
-fn draw_sound(
-    alloc: Global,
-    random: &mut Random,
-    model: &Model,
-    habit: &Habit,
-) -> Result<Vec<u8>, AllocError> {
+fn draw_sound(random: &mut Random, model: &Model, habit: &Habit) -> File {
     let blocks = draw_blocks(random);
     let mut drawing = Drawing {
         ahead: *model,
         habit,
         any: random.one_in(2),
     };
-    let mut file = Vec::new(alloc);
+    let mut file = File::new();
     for block in 0..blocks {
-        write_block(&mut file, random, &mut drawing, block, blocks)?;
+        write_block(&mut file, random, &mut drawing, block, blocks);
     }
-    Ok(file)
+    file
 }
 
-pub(crate) fn draw_file(
-    alloc: Global,
-    random: &mut Random,
-    model: &Model,
-    habit: &Habit,
-) -> Result<Vec<u8>, AllocError> {
-    let mut file = draw_sound(alloc, random, model, habit)?;
+pub(crate) fn draw_file(random: &mut Random, model: &Model, habit: &Habit) -> File {
+    let mut file = draw_sound(random, model, habit);
     if random.one_in(2) {
-        damage::spoil(random, &mut file)?;
+        damage::spoil(random, &mut file);
     }
-    Ok(file)
+    file
 }

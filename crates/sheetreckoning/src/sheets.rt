@@ -6,7 +6,6 @@ use crate::model::Model;
 use naive::random::Random;
 use naive::tables;
 use sheet::open::OpenSheet;
-use std::alloc::{AllocError, Global};
 use table::row::Row;
 
 // How many calls before a sheet is closed and reopened, and how many after.
@@ -29,11 +28,7 @@ fn draw_length(random: &mut Random) -> usize {
 }
 
 // One sheet: opened, called, closed and reopened, and called again.
-pub(crate) fn one_sheet(
-    alloc: Global,
-    counts: &mut Counts,
-    random: &mut Random,
-) -> Result<(), AllocError> {
+pub(crate) fn one_sheet(counts: &mut Counts, random: &mut Random) {
     let board = tables::draw_board(random, 8);
     let lent = draw_garbage(random);
     let length = draw_length(random).min(70);
@@ -46,12 +41,11 @@ pub(crate) fn one_sheet(
     };
     counts.note_opening(beside.agrees());
     for _ in 0..CALLS {
-        beside.one_call(alloc, counts, random)?;
+        beside.one_call(counts, random);
     }
     let mut beside = beside.reopened();
     counts.note_closing(beside.agrees());
     for _ in 0..CALLS {
-        beside.one_call(alloc, counts, random)?;
+        beside.one_call(counts, random);
     }
-    Ok(())
 }

@@ -1,8 +1,8 @@
 // Entering, withdrawing and amending: every fault is looked for, and the first in the order of the
 // checks is told.
+use crate::answers::Cause;
 use crate::model::{Draft, Filed, Model};
 use naive::recurrence::Kind;
-use table::refusal::Refusal;
 use table::row::Figures;
 
 fn is_amount(n: u32) -> bool {
@@ -10,9 +10,9 @@ fn is_amount(n: u32) -> bool {
 }
 
 // The first of these faults that is there refuses.
-pub(crate) fn refused_by(faults: &[(bool, Refusal)]) -> Result<(), Refusal> {
+pub(crate) fn refused_by(faults: &[(bool, Cause)]) -> Result<(), Cause> {
     match faults.iter().find(|fault| fault.0) {
-        Some((_, refusal)) => Err(*refusal),
+        Some((_, cause)) => Err(*cause),
         None => Ok(()),
     }
 }
@@ -47,30 +47,30 @@ impl Model {
     }
 
     // What speaks against filing a draft.
-    fn check_entry(&self, draft: &Draft) -> Result<(), Refusal> {
+    fn check_entry(&self, draft: &Draft) -> Result<(), Cause> {
         let Filed {
             core,
             rank,
             figures,
         } = draft.filed;
         refused_by(&[
-            (draft.number >= self.capacity, Refusal::NumberTooLarge),
-            (self.slot(draft.number).is_some(), Refusal::NumberOccupied),
-            (core >= self.board.cores, Refusal::CoreLacking),
-            (!self.is_free(core, rank), Refusal::RankUnavailable),
+            (draft.number >= self.capacity, Cause::NumberTooLarge),
+            (self.slot(draft.number).is_some(), Cause::NumberOccupied),
+            (core >= self.board.cores, Cause::CoreLacking),
+            (!self.is_free(core, rank), Cause::RankUnavailable),
             (
                 draft.fourth != 0 || !self.fits(&figures),
-                Refusal::FigureLimits,
+                Cause::FigureLimits,
             ),
         ])
     }
 
     // The task of a number, or what speaks against naming it as a task's.
-    pub(crate) fn named(&self, number: usize) -> Result<Filed, Refusal> {
+    pub(crate) fn named(&self, number: usize) -> Result<Filed, Cause> {
         if number >= self.capacity {
-            return Err(Refusal::NumberTooLarge);
+            return Err(Cause::NumberTooLarge);
         }
-        self.slot(number).ok_or(Refusal::NumberEmpty)
+        self.slot(number).ok_or(Cause::NumberEmpty)
     }
 
     // Fills or clears a slot. A core stands no longer if it is the one that changed, or if its test
@@ -86,22 +86,22 @@ impl Model {
         }
     }
 
-    pub(crate) fn enter(&mut self, draft: &Draft) -> Result<(), Refusal> {
+    pub(crate) fn enter(&mut self, draft: &Draft) -> Result<(), Cause> {
         self.check_entry(draft)?;
         self.change(draft.number, Some(draft.filed), draft.filed.core);
         Ok(())
     }
 
-    pub(crate) fn withdraw(&mut self, number: usize) -> Result<(), Refusal> {
+    pub(crate) fn withdraw(&mut self, number: usize) -> Result<(), Cause> {
         let old = self.named(number)?;
         self.change(number, None, old.core);
         Ok(())
     }
 
-    pub(crate) fn amend(&mut self, number: usize, figures: &Figures) -> Result<(), Refusal> {
+    pub(crate) fn amend(&mut self, number: usize, figures: &Figures) -> Result<(), Cause> {
         let old = self.named(number)?;
         if !self.fits(figures) {
-            return Err(Refusal::FigureLimits);
+            return Err(Cause::FigureLimits);
         }
         let filed = Filed {
             figures: *figures,

@@ -1,8 +1,7 @@
 // Loading a file: each field is reckoned from the place of its bytes in the whole file.
-use crate::answers::{Detail, Part, Refused};
+use crate::answers::{Cause, Detail, Part, Refused};
 use crate::model::editing::refused_by;
 use crate::model::{Draft, Filed, Model};
-use table::refusal::Refusal;
 use table::row::Figures;
 
 // A byte of the file, or 0 past its end.
@@ -78,18 +77,18 @@ fn is_spare(at: usize, count: u8) -> bool {
 
 // Which part a refusal of a load belongs to.
 // Told again here: the second reckoning shares no rule with the sheet.
-fn part_of(cause: Refusal) -> Part {
+fn part_of(cause: Cause) -> Part {
     match cause {
-        Refusal::FileLength | Refusal::BlockCheck | Refusal::BlockNumber | Refusal::BlockLayout =>
+        Cause::FileLength | Cause::BlockCheck | Cause::BlockNumber | Cause::BlockLayout =>
             Part::Block,
-        Refusal::FigureLimits => Part::Figures,
+        Cause::FigureLimits => Part::Figures,
         _ => Part::Sheet,
     }
 }
 
-fn stop(cause: Refusal, block: usize, record: usize, entered: usize) -> Refused {
+fn stop(cause: Cause, block: usize, record: usize, entered: usize) -> Refused {
     Refused {
-        refusal: cause,
+        cause,
         detail: Detail::Stopped {
             part: part_of(cause),
             block,
@@ -109,14 +108,11 @@ impl Model {
     }
 
     // What speaks against a block.
-    fn check_block(&self, bytes: &[u8], start: usize, block: usize) -> Result<(), Refusal> {
+    fn check_block(&self, bytes: &[u8], start: usize, block: usize) -> Result<(), Cause> {
         refused_by(&[
-            (!is_sound(bytes, start), Refusal::BlockCheck),
-            (
-                usize::from(pair(bytes, start)) != block,
-                Refusal::BlockNumber,
-            ),
-            (!self.is_laid_out(bytes, start), Refusal::BlockLayout),
+            (!is_sound(bytes, start), Cause::BlockCheck),
+            (usize::from(pair(bytes, start)) != block, Cause::BlockNumber),
+            (!self.is_laid_out(bytes, start), Cause::BlockLayout),
         ])
     }
 
@@ -139,7 +135,7 @@ impl Model {
     pub(crate) fn load(&mut self, bytes: &[u8]) -> Result<usize, Refused> {
         let blocks = bytes.len() / 512;
         if blocks == 0 || blocks > 64 || bytes.len() % 512 != 0 {
-            return Err(stop(Refusal::FileLength, 0, 0, 0));
+            return Err(stop(Cause::FileLength, 0, 0, 0));
         }
         let mut entered = 0;
         for block in 0..blocks {

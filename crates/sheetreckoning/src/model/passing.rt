@@ -1,12 +1,11 @@
 // Judging, ordering, bounds and settling, over the naive recurrences.
-use crate::answers::{Detail, Refused};
+use crate::answers::{Cause, Detail, Refused};
 use crate::model::{Filed, Model};
 use naive::numbers::Numbers;
 use naive::recurrence::{Kind, Question};
 use naive::rounds::Unsettled;
 use naive::{recurrence, rounds};
 use std::array;
-use table::refusal::Refusal;
 use table::row::Row;
 
 impl Model {
@@ -43,13 +42,13 @@ impl Model {
     // From the highest rank to the lowest, until a task has no bound.
     pub(crate) fn judge(&mut self, core: u8, kind: Kind) -> Result<(), Refused> {
         if core >= self.board.cores {
-            return Err(Refused::from(Refusal::CoreLacking));
+            return Err(Refused::from(Cause::CoreLacking));
         }
         for rank in 1..=64u8 {
             if let Some(number) = self.holder(core, rank) {
                 if self.present(kind, number).is_none() {
                     return Err(Refused {
-                        refusal: Refusal::NoBound,
+                        cause: Cause::NoBound,
                         detail: Detail::Unbound(number),
                     });
                 }
@@ -88,7 +87,7 @@ impl Model {
     // The ranks, from the largest number down, until all tasks are placed or none can be.
     pub(crate) fn order(&mut self, core: u8, kind: Kind) -> Result<u32, Refused> {
         if core >= self.board.cores {
-            return Err(Refused::from(Refusal::CoreLacking));
+            return Err(Refused::from(Cause::CoreLacking));
         }
         let mut unplaced = recurrence::tasks_of(&self.rows(), core);
         let mut ranks = [None; 64];
@@ -98,7 +97,7 @@ impl Model {
             trials = trials.saturating_add(tried);
             let Some(number) = taker else {
                 return Err(Refused {
-                    refusal: Refusal::NoOrder,
+                    cause: Cause::NoOrder,
                     detail: Detail::Unplaced {
                         trials,
                         unplaced: unplaced.count(),
@@ -115,14 +114,14 @@ impl Model {
         Ok(trials)
     }
 
-    pub(crate) fn bound(&self, number: usize, kind: Kind) -> Result<u32, Refusal> {
+    pub(crate) fn bound(&self, number: usize, kind: Kind) -> Result<u32, Cause> {
         self.named(number)?;
-        self.present(kind, number).ok_or(Refusal::NoBound)
+        self.present(kind, number).ok_or(Cause::NoBound)
     }
 
     pub(crate) fn settle(&self, times: &mut [u32]) -> Result<u32, Refused> {
         if times.len() < self.capacity {
-            return Err(Refused::from(Refusal::BufferTooShort));
+            return Err(Refused::from(Cause::BufferTooShort));
         }
         let rows = self.rows();
         match rounds::settle(&self.board, &rows[..self.capacity]) {
@@ -130,13 +129,11 @@ impl Model {
                 times[..self.capacity].copy_from_slice(&settled.bounds[..self.capacity]);
                 Ok(settled.round)
             }
-            Err(unsettled) => Err(Refused {
-                refusal: Refusal::NoBound,
-                detail: match unsettled {
-                    Unsettled::Unbounded { task, round } => Detail::Unsettled { task, round },
-                    Unsettled::Open => Detail::Open,
-                },
+            Err(Unsettled::Unbounded { task, round }) => Err(Refused {
+                cause: Cause::NoBound,
+                detail: Detail::Unsettled { task, round },
             }),
+            Err(Unsettled::Open) => Err(Refused::from(Cause::Open)),
         }
     }
 }
