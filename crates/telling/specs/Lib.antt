@@ -4,3 +4,6 @@ pub mod Boards
 pub mod Tasks
 pub mod Times
 pub mod Listing
+pub mod Hex
+pub mod Reading
+pub mod Files

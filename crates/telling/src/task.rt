@@ -56,7 +56,7 @@ impl fmt::Display for ResourcesTold {
             stress,
             ..
         } = self.figures;
-        // By places: contracts name them so.
+        // By places, as the definition counts them.
         for r in 0..usize::from(self.resources).min(4) {
             let x = sensitivity[r];
             let y = stress[r];
