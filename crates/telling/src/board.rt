@@ -1,4 +1,7 @@
 // The board, and how to read the figures.
+ghost use Rattle.telling.specs.Boards.{board_text};
+ghost use Rattle.std.specs.Prelude.{Some};
+
 use crate::counted::Counted;
 use std::fmt;
 use table::board::Board;
@@ -7,6 +10,8 @@ use table::board::Board;
 pub struct BoardTold<'a>(pub &'a Board);
 
 impl fmt::Display for BoardTold<'_> {
+    ghost output = { λ told. Some (board_text told.0.now) };
+
     fn fmt<W: fmt::Write>(&self, f: &mut fmt::Formatter<W>) -> fmt::Result {
         let cores = Counted {
             count: u32::from(self.0.cores),
@@ -16,7 +21,9 @@ impl fmt::Display for BoardTold<'_> {
             count: u32::from(self.0.resources),
             word: "shared resource",
         };
-        writeln!(f, "The board has {cores} and {resources}.")?;
-        f.write_str("Times are whole microseconds. Rank 1 is the highest of its core.")
+        write!(
+            f,
+            "The board has {cores} and {resources}.\nTimes are whole microseconds. Rank 1 is the highest of its core."
+        )
     }
 }

@@ -1,4 +1,7 @@
 // A task: its figures, and what both tests say of it under the present ranks.
+ghost use Rattle.telling.specs.Tasks.{bound_text, figures_text, resources_text, task_text};
+ghost use Rattle.std.specs.Prelude.{Some};
+
 use bounds::composable::Composable;
 use bounds::deadline::Deadline;
 use std::fmt;
@@ -18,6 +21,9 @@ struct BoundTold {
 }
 
 impl fmt::Display for BoundTold {
+    ghost output = { λ told. Some (bound_text told.test.now told.deadline told.bound) };
+
+    #[tactic(auto, unfolding(crate::specs::Tasks::bound_text))]
     fn fmt<W: fmt::Write>(&self, f: &mut fmt::Formatter<W>) -> fmt::Result {
         let test = self.test;
         let deadline = self.deadline;
@@ -34,6 +40,35 @@ impl fmt::Display for BoundTold {
     }
 }
 
+// The sensitivity and the stress, for so many resources, which the board has.
+#[derive(Clone, Copy)]
+struct ResourcesTold {
+    resources: u8,
+    figures: Figures,
+}
+
+impl fmt::Display for ResourcesTold {
+    ghost output = { λ told. Some (resources_text told.resources told.figures) };
+
+    fn fmt<W: fmt::Write>(&self, f: &mut fmt::Formatter<W>) -> fmt::Result {
+        let Figures {
+            sensitivity,
+            stress,
+            ..
+        } = self.figures;
+        // By places, as the definition counts them.
+        for r in 0..usize::from(self.resources).min(4) {
+            let x = sensitivity[r];
+            let y = stress[r];
+            write!(
+                f,
+                "\n  on resource {r} it suffers up to {x} from each other core, and inflicts up to {y}"
+            )?;
+        }
+        Ok(())
+    }
+}
+
 // The figures; of the resources only so many, which the board has.
 #[derive(Clone, Copy)]
 struct FiguresTold {
@@ -42,26 +77,22 @@ struct FiguresTold {
 }
 
 impl fmt::Display for FiguresTold {
+    ghost output = { λ told. Some (figures_text told.resources told.figures) };
+
+    #[tactic(auto, unfolding(crate::specs::Tasks::figures_text))]
     fn fmt<W: fmt::Write>(&self, f: &mut fmt::Formatter<W>) -> fmt::Result {
+        let FiguresTold { resources, figures } = *self;
         let Figures {
             cost,
             period,
             deadline,
-            sensitivity,
-            stress,
-        } = self.figures;
+            ..
+        } = figures;
+        let resources = ResourcesTold { resources, figures };
         write!(
             f,
-            "  executes for {cost} alone, is released at most once every {period}, has to end within {deadline}"
-        )?;
-        let had = sensitivity.into_iter().zip(stress).enumerate();
-        for (r, (x, y)) in had.take(usize::from(self.resources)) {
-            write!(
-                f,
-                "\n  on resource {r} it suffers up to {x} from each other core, and inflicts up to {y}"
-            )?;
-        }
-        Ok(())
+            "  executes for {cost} alone, is released at most once every {period}, has to end within {deadline}{resources}"
+        )
     }
 }
 
@@ -74,6 +105,9 @@ pub(crate) struct TaskTold<'a> {
 }
 
 impl fmt::Display for TaskTold<'_> {
+    ghost output = { λ told. Some (task_text told.board.now told.rows.now told.number told.task.now.core told.task.now.figures) };
+
+    #[tactic(auto, unfolding(crate::specs::Tasks::task_text))]
     fn fmt<W: fmt::Write>(&self, f: &mut fmt::Formatter<W>) -> fmt::Result {
         let TaskTold {
             board,
