@@ -1,4 +1,8 @@
 // What a call on a sheet answers, with all that it tells.
+ghost use Rattle.sheetreckoning.specs.Causes.{known, number_written};
+ghost use Rattle.std.specs.Prelude.{◌≡◌};
+ghost use Rattle.table.specs.Refusals.{number_of};
+
 use bounds::response::Unsettled;
 use sheet::refused::{Layer, NotOrdered, NotPassing, Stopped};
 use table::refusal::Refusal;
@@ -30,7 +34,9 @@ pub(crate) enum Cause {
 
 impl Cause {
     // The number of the refusal, or 0 where it is none of the model's.
-    pub(crate) fn number(self) -> u8 {
+    pub(crate) fn number(self) -> u8
+        ensures { result ≡ number_written self }
+    {
         match self {
             Cause::FileLength => 2,
             Cause::BlockCheck => 3,
@@ -52,6 +58,8 @@ impl Cause {
 
 // By its number alone, so that the two are compared by what people are told.
 impl From<Refusal> for Cause {
+    ghost from_gives = { λ refusal cause. number_written cause ≡ known (number_of refusal) };
+
     fn from(refusal: Refusal) -> Cause {
         match refusal.number() {
             2 => Cause::FileLength,
