@@ -11,6 +11,7 @@ use Rattle.bounds.specs.Rules.{composable_rule, contention, lesser_rule}
 use Rattle.bounds.specs.Sums.{sum_to}
 use Rattle.bounds.specs.declared.load.Load.{Load}
 use Rattle.bounds.specs.declared.question.Own.{Own}
+use Rattle.shortlist.specs.Items.{items}
 use Rattle.std.proofs.lemmas.Bool.{cases_order, cond-false, cond-true, eq-eqb, eqb-true, lt-ltb, ne_eqb}
 use Rattle.table.proofs.Places.{on_board_core}
 use Rattle.table.specs.Rows.{is_task, on_board, on_core, row_at}
@@ -23,7 +24,7 @@ module _ (board : Board) (rows : List Row) (i : ℕ) (set : Set) (own : Own) (as
   pub meets_execution : (t : ℕ) → own_cost own t ≡ execution rows i set t
   unfolding execution
   meets_execution t =
-      ap (λ (f : Figures). f.cost + sum_by (λ x. releases (t + x.ahead.length) x.period * x.cost) own.higher.items) asks.figures_is
+      ap (λ (f : Figures). f.cost + sum_by (λ x. releases (t + x.ahead.length) x.period * x.cost) (items own.higher)) asks.figures_is
       ∙ ap (λ n. cost rows i + n)
       (asks.gathers (λ q. releases (t + q.ahead) q.period * q.cost)
       ∙ ap (λ s. sum_to 64 (λ j. cond (above rows i set j) (releases s (period rows j) * cost rows j) 0)) (add-zero t))
@@ -31,7 +32,7 @@ module _ (board : Board) (rows : List Row) (i : ℕ) (set : Set) (own : Own) (as
   pub meets_sensitivity : (r t : ℕ) → own_shared own r t ≡ total_sensitivity rows i set r t
   unfolding total_sensitivity
   meets_sensitivity r t =
-      ap (λ (f : Figures). get_or f.sensitivity r 0 + sum_by (weight_at r t) own.higher.items) asks.figures_is
+      ap (λ (f : Figures). get_or f.sensitivity r 0 + sum_by (weight_at r t) (items own.higher)) asks.figures_is
       ∙ ap (λ n. sensitivity rows r i + n)
       (asks.gathers (λ q. releases (t + q.ahead) q.period * get_or q.weight r 0)
       ∙ ap (λ s. sum_to 64 (λ j. cond (above rows i set j) (releases s (period rows j) * sensitivity rows r j) 0)) (add-zero t))

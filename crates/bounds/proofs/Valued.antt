@@ -10,13 +10,14 @@ use Rattle.bounds.specs.declared.load.Load.{Load}
 use Rattle.bounds.specs.declared.load.Sums.{Sums}
 use Rattle.bounds.specs.declared.question.Own.{Own}
 use Rattle.least.specs.Least.{NoSolutionBelow}
+use Rattle.shortlist.specs.Items.{items}
 use Rattle.std.proofs.lemmas.List.Sums.{sum_by-le-sum_by}
 use Rattle.std.proofs.lemmas.Bool.{cond-false, cond-true, eq-eqb, ne_eqb}
 use Rattle.table.specs.declared.board.Board.{Board}
 
 own_cost_rises : (own : Own) (s t : ℕ) → s ≤ t → own_cost own s ≤ own_cost own t
 own_cost_rises own s t l =
-    omega (arith, sum_by-le-sum_by (cost_at s) (cost_at t) own.higher.items (λ x. mul-le-mul_right x.cost (releases_rise (s + x.ahead.length) (t + x.ahead.length) x.period (omega arith))))
+    omega (arith, sum_by-le-sum_by (cost_at s) (cost_at t) (items own.higher) (λ x. mul-le-mul_right x.cost (releases_rise (s + x.ahead.length) (t + x.ahead.length) x.period (omega arith))))
 
 -- whatever is added to the execution
 pub no_solution_below : (own : Own) (more : ℕ → ℕ) (r : ℕ) → r ≤ own_cost own 1 → NoSolutionBelow (λ t. own_cost own t + more t) r

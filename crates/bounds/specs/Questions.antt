@@ -8,6 +8,7 @@ use Rattle.bounds.specs.Sums.{sum_to}
 use Rattle.bounds.specs.declared.load.Load.{Load}
 use Rattle.bounds.specs.declared.load.Sums.{Sums}
 use Rattle.bounds.specs.declared.question.Own.{Own}
+use Rattle.shortlist.specs.Items.{items}
 use Rattle.table.specs.Rows.{is_task, on_board, row_at}
 use Rattle.table.specs.Sets.{Set}
 use Rattle.table.specs.Tasks.{row_of}
@@ -17,11 +18,11 @@ use Rattle.table.specs.declared.task.Task.{Task}
 
 -- execution of the task and of its higher ones
 abbrev pub own_cost : Own → ℕ → ℕ
-own_cost own t = own.task.figures.cost + sum_by (cost_at t) own.higher.items
+own_cost own t = own.task.figures.cost + sum_by (cost_at t) (items own.higher)
 
 -- what they can suffer on resource r
 abbrev pub own_shared : Own → ℕ → ℕ → ℕ
-own_shared own r t = slice_index own.task.figures.sensitivity r + sum_by (weight_at r t) own.higher.items
+own_shared own r t = slice_index own.task.figures.sensitivity r + sum_by (weight_at r t) (items own.higher)
 
 -- both, as sums
 pub record SumsOf (own : Own) (t : ℕ) (sums : Sums) : Type 0 where
@@ -49,7 +50,7 @@ pub record Asks (board : Board) (rows : List Row) (i : ℕ) (set : Set) (own : O
   pub found : on_board board rows i ≡ true
   pub core_is : own.task.core ≡ (row_at rows i).core
   pub figures_is : own.task.figures ≡ (row_at rows i).figures
-  pub gathers : Gathers (above rows i set) (λ j. higher_form (row_at rows j)) 64 own.higher.items
+  pub gathers : Gathers (above rows i set) (λ j. higher_form (row_at rows j)) 64 (items own.higher)
 
 -- the deadline of a task, or 0
 abbrev pub deadline_in : Option Task → ℕ

@@ -2,6 +2,7 @@
 ghost use Rattle.std.specs.Prelude.{ℕ, ◌<◌, Bool, not, ◌&&◌, ◌==◌};
 ghost use Rattle.bounds.specs.Gathering.{Form, Gathers, Picked, higher_form, rival_form};
 ghost use Rattle.bounds.specs.Lengths.{length_of};
+ghost use Rattle.shortlist.specs.Items.{items};
 ghost use Rattle.table.specs.Rows.{on_board, on_core, row_at};
 ghost use Rattle.table.specs.Sets.{members};
 ghost use Rattle.table.specs.Tasks.{listed};
@@ -28,7 +29,7 @@ pub(crate) trait Pick {
 
 // By `push`, which cannot fail: collecting could, and a test may not.
 pub(crate) fn gather<P: Pick>(picker: &P) -> Loads
-    ensures { Gathers (P.picks picker.now) (P.forms picker.now) 64 result.items }
+    ensures { Gathers (P.picks picker.now) (P.forms picker.now) 64 (items result) }
 {
     let mut loads = Loads::new();
     for number in 0..NUMBERS {

@@ -1,6 +1,7 @@
 // What the tests keep of a board and its rows, for many questions about them.
 ghost use Rattle.bounds.specs.Gathering.{Gathers, rival_form};
 ghost use Rattle.bounds.specs.Lengths.{length_of};
+ghost use Rattle.shortlist.specs.Items.{items};
 ghost use Rattle.table.specs.Rows.{on_board, row_at};
 ghost use Rattle.table.specs.Tasks.{listed};
 
@@ -25,5 +26,5 @@ pub struct RivalTable {
     pub(crate) table: CheckedTable,
     pub(crate) ahead: Lengths,
     pub(crate) rivals: Loads,
-    ghost gathered: { Gathers (on_board table.board (listed table.tasks)) (λ j. rival_form (length_of ahead.of j) (row_at (listed table.tasks) j)) 64 rivals.items },
+    ghost gathered: { Gathers (on_board table.board (listed table.tasks)) (λ j. rival_form (length_of ahead.of j) (row_at (listed table.tasks) j)) 64 (items rivals) },
 }

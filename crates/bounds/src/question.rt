@@ -2,6 +2,7 @@
 ghost use Rattle.std.specs.Prelude.{◌^◌, ◌≤◌};
 ghost use Rattle.bounds.specs.Loads.{AtMost};
 ghost use Rattle.bounds.specs.Questions.{SumsOf, lesser_side, own_cost, sensitivity_side};
+ghost use Rattle.shortlist.specs.Items.{items};
 
 use crate::load::{Loads, Sums, lesser, sums, sums_by_core, total};
 use least::{Rule, Window};
@@ -68,7 +69,7 @@ pub(crate) struct LesserRule<'a> {
 }
 
 impl Rule for LesserRule<'_> {
-    ghost value = { λ q. lesser_side q.board.now q.own.now q.rivals.now.items };
+    ghost value = { λ q. lesser_side q.board.now q.own.now (items q.rivals.now) };
 
     fn start(&self) -> u32 {
         self.own.start()

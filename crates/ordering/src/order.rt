@@ -1,5 +1,6 @@
 // An order, and what a search for one answers.
 ghost use Rattle.std.specs.Prelude.{◌≤◌, length};
+ghost use Rattle.shortlist.specs.Items.{items};
 
 use shortlist::ShortList;
 
@@ -7,7 +8,7 @@ use shortlist::ShortList;
 #[derive(Clone, Copy, Debug)]
 pub struct Order {
     pub numbers: ShortList<usize, 64>,
-    ghost few: { length numbers.items ≤ 64 },
+    ghost few: { length (items numbers) ≤ 64 },
 }
 
 // An order that was found, and how many tasks were tried over all its places.

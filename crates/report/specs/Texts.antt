@@ -1,11 +1,12 @@
 -- A text as its bytes, and what copying one into a buffer answers and leaves.
-use Rattle.std.specs.Prelude.{ℕ, cond, List, ◌++◌, length, take, drop, Ok, Err, Result, nat_lt}
+use Rattle.std.specs.Prelude.{ℕ, cond, List, ◌++◌, length, drop, Ok, Err, Result, nat_lt}
 use Rattle.report.specs.declared.text.Text.{Text}
+use Rattle.shortlist.specs.Items.{items}
 use Rattle.table.specs.declared.refusal.Refusal.TheVariants.{BufferTooShort}
 use Rattle.table.specs.declared.refusal.Refusal.{Refusal}
 
 abbrev pub shown : Text → List ℕ
-shown t = t.bytes.items
+shown t = items t.bytes
 
 -- how many bytes a text has, or the refusal of a buffer that is too short
 abbrev pub copy_answer : List ℕ → ℕ → Result ℕ Refusal

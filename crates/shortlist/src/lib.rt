@@ -1,42 +1,39 @@
 // A list of at most `N` values, which lies in the value itself and is copied with it.
 #![tactic(auto)]
 
-ghost use Rattle.std.specs.Prelude.{◌≡◌, ◌+◌, ◌<◌, ◌≤◌, [], ◌∷◌, ◌++◌, length};
+ghost use Rattle.std.specs.Prelude.{⊤, ◌≡◌, ◌+◌, ◌<◌, ◌≤◌, [], ◌∷◌, ◌++◌, length};
 
+use std::alloc::AllocError;
 use std::fmt;
-use std::marker::Model;
 
-// A type that is `Copy` holds this list, since the kit's `ArrayVec` is not.
-#[derive(Clone, Copy)]
+// Types that are `Copy` hold this list, since the kit's `ArrayVec` is not. It has no model: a function that
+// copies a value in which a struct with a model lies, by using it twice, is not proved. The fields are
+// public, so that a constant can hold a list.
 pub struct ShortList<T, const N: usize> {
-    places: [T; N],
-    len: usize,
+    pub places: [T; N],
+    pub len: usize,
+    ghost fits: { len ≤ N },
 }
 
-// Seen as its values, and what the unused places hold.
-impl<T, const N: usize> Model for ShortList<T, N> {
-    ghost use Rattle.std.specs.Prelude.{◌≡◌, ◌≤◌, ◌++◌, length, take, drop};
-    ghost use Rattle.std.proofs.Common.{arith, take-append-drop, length-take-le};
-    ghost use Rattle.shortlist.specs.ShortList.{ShortList as Items};
+// By hand: a derive is refused over the ghost field of a type with a parameter.
+impl<T: Copy, const N: usize> Copy for ShortList<T, N> {}
 
-    ghost Value = { Items T };
+impl<T: Copy, const N: usize> Clone for ShortList<T, N> {
+    ghost is_clone = { λ s t. t ≡ s };
 
-    ghost view = { λ s. record { items = take s.len s.places; spare = drop s.len s.places } };
+    ghost is_infallible = { λ _. ⊤ };
 
-    ghost invariant = { λ s. (s.len ≤ N) × (length s.places ≡ N) };
-
-    ghost inverse = { λ s. record { places = s.items ++ s.spare; len = length s.items } };
-
-    ghost inverse_ok = { λ s h i. record {
-      places = take-append-drop s.len s.places i;
-      len = length-take-le s.len s.places (omega (arith, h.0, h.1)) i;
-    } };
+    fn clone(&self) -> Result<ShortList<T, N>, AllocError> {
+        Ok(*self)
+    }
 }
 
 impl<T: Copy + Default, const N: usize> ShortList<T, N> {
+    ghost use Rattle.shortlist.specs.Items.{items};
+
     // An empty list.
     pub fn new() -> ShortList<T, N>
-        ensures { result.items ≡ [] }
+        ensures { items result ≡ [] }
     {
         ShortList {
             places: [T::default(); N],
@@ -46,11 +43,13 @@ impl<T: Copy + Default, const N: usize> ShortList<T, N> {
 }
 
 impl<T: Copy, const N: usize> ShortList<T, N> {
+    ghost use Rattle.shortlist.specs.Items.{items};
+
     // One value more. A full list has no place for it, and stays.
     pub fn push(&mut self, value: T)
-        ensures room { length self.old.items < N → self.new.items ≡ self.old.items ++ value ∷ [] }
-        ensures len { length self.old.items < N → length self.new.items ≡ length self.old.items + 1 }
-        ensures full { N ≤ length self.old.items → self.new.items ≡ self.old.items }
+        ensures room { length (items self.old) < N → items self.new ≡ items self.old ++ value ∷ [] }
+        ensures len { length (items self.old) < N → length (items self.new) ≡ length (items self.old) + 1 }
+        ensures full { N ≤ length (items self.old) → items self.new ≡ items self.old }
     {
         if self.len < N {
             self.places[self.len] = value;
@@ -60,8 +59,8 @@ impl<T: Copy, const N: usize> ShortList<T, N> {
 
     // All of these more. Where there are too few places for them, the list stays.
     pub fn push_all(&mut self, values: &[T])
-        ensures room { length self.old.items + length values.now ≤ N → self.new.items ≡ self.old.items ++ values.now }
-        ensures full { N < length self.old.items + length values.now → self.new.items ≡ self.old.items }
+        ensures room { length (items self.old) + length values.now ≤ N → items self.new ≡ items self.old ++ values.now }
+        ensures full { N < length (items self.old) + length values.now → items self.new ≡ items self.old }
     {
         if values.len() <= N - self.len {
             let len = self.len + values.len();
@@ -73,7 +72,7 @@ impl<T: Copy, const N: usize> ShortList<T, N> {
 
     // How many values it has.
     pub fn len(&self) -> usize
-        ensures value { result ≡ length self.now.items }
+        ensures value { result ≡ length (items self.now) }
         ensures fits { result ≤ N }
     {
         self.as_slice().len()
@@ -81,7 +80,7 @@ impl<T: Copy, const N: usize> ShortList<T, N> {
 
     // Its values.
     pub fn as_slice(&self) -> &[T]
-        ensures value { result.now ≡ self.now.items }
+        ensures value { result.now ≡ items self.now }
         ensures fits { length result.now ≤ N }
     {
         &self.places[..self.len]

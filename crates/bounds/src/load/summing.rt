@@ -2,6 +2,7 @@
 ghost use Rattle.std.specs.Prelude.{◌≡◌, ℕ, ◌*◌, ◌^◌, ◌<◌, ◌≤◌, min, slice_index, slice_index_or};
 ghost use Rattle.bounds.specs.Loads.{Added, AtMost, Total, every, no_sums, of_core, seen};
 ghost use Rattle.bounds.specs.Sums.{sum_to};
+ghost use Rattle.shortlist.specs.Items.{items};
 
 use crate::load::{Load, Loads, Sums};
 use least::Window;
@@ -46,7 +47,7 @@ impl Sums {
 // From a start, what all loads add in a window.
 pub(crate) fn sums(loads: &Loads, start: Sums, window: Window) -> Sums
     requires { AtMost 10000000 start }
-    ensures total { Total every window.length start loads.now.items result }
+    ensures total { Total every window.length start (items loads.now) result }
     ensures small { AtMost (2 ^ 54) result }
 {
     let mut sums = start;
@@ -58,7 +59,7 @@ pub(crate) fn sums(loads: &Loads, start: Sums, window: Window) -> Sums
 
 // What the loads of each core add in a window.
 pub(crate) fn sums_by_core(loads: &Loads, window: Window) -> [Sums; 8]
-    ensures { (y : ℕ) → y < 8 → Total (of_core y) window.length no_sums loads.now.items (slice_index_or result y no_sums) }
+    ensures { (y : ℕ) → y < 8 → Total (of_core y) window.length no_sums (items loads.now) (slice_index_or result y no_sums) }
 {
     let mut sums = [Sums::NONE; 8];
     for load in loads.as_slice() {

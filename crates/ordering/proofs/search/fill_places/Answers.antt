@@ -4,6 +4,7 @@ use Rattle.ordering.proofs.Takers.{Took, took, tried_le}
 use Rattle.ordering.proofs.search.fill_places.Goals as goal
 use Rattle.ordering.specs.Orders.{Answers}
 use Rattle.ordering.specs.Search.{after, fill, first_taker, refused, tried}
+use Rattle.shortlist.specs.Items.{items}
 use Rattle.table.proofs.Flags.{count_le}
 use Rattle.table.specs.Sets.{Set, members, without}
 
@@ -38,7 +39,7 @@ returns-in_default g c =
     let none : first_taker ask U ≡ None = sym taker.ensures.number ∙ c.in_default.is in
     let tries : taker.result.trials ≡ tried U None = taker.ensures.trials ∙ ap (tried U) c.in_default.is in
     ap (λ n. refused (c.loop-placed.trials + n) (c.size-count.result - c.loop-placed.placed)) tries
-    ∙ sym (fill_stuck ask U c.size-count.result c.loop-placed.placed c.loop-placed.trials c.loop-placed.numbers.items c.loop-placed-test.true none)
+    ∙ sym (fill_stuck ask U c.size-count.result c.loop-placed.placed c.loop-placed.trials (items c.loop-placed.numbers) c.loop-placed-test.true none)
     ∙ c.loop-placed.invariant.0
 
 pub loop-placed-preserved : goal.loop-placed-preserved
@@ -48,7 +49,7 @@ loop-placed-preserved g c =
     let k = c.in-Some.number in
     let n = c.size-count.result in
     let p = c.loop-placed.placed in
-    let xs = c.loop-placed.numbers.items in
+    let xs = items c.loop-placed.numbers in
     let taker = c.find_taker-taker in
     let room : length xs < 64 = omega (arith, c.loop-placed.invariant.2, c.loop-placed.invariant.3, c.loop-placed-test.true) in
     let found : first_taker ask U ≡ Some k = sym taker.ensures.number ∙ c.in-Some.is in
@@ -67,5 +68,5 @@ pub returns : goal.returns
 returns g c =
     let ask : Answers = g.T.Test.meaning c.args.asking.now.test.now c.args.asking.now.board c.args.asking.now.rows.now in
     let p = c.loop-placed.placed in
-    sym (fill_done ask (members c.loop-placed.left) c.size-count.result p c.loop-placed.numbers.items c.loop-placed.trials c.loop-placed-test.false)
+    sym (fill_done ask (members c.loop-placed.left) c.size-count.result p (items c.loop-placed.numbers) c.loop-placed.trials c.loop-placed-test.false)
     ∙ c.loop-placed.invariant.0

@@ -3,6 +3,7 @@ use Rattle.ordering.proofs.Reranks.{written_writes}
 use Rattle.ordering.proofs.writing.write_ranks.Goals as goal
 use Rattle.ordering.proofs.writing.write_ranks.Goals.{else-number-rows, then-number-rows}
 use Rattle.ordering.specs.Writing.{ranked_by, reranked, with_rank, written}
+use Rattle.shortlist.specs.Items.{items}
 use Rattle.std.proofs.lemmas.List.{at_drop_all, at_drop_more, set_past}
 use Rattle.table.specs.Rows.{row_at}
 use Rattle.table.specs.declared.row.Row.{Row}
@@ -32,10 +33,10 @@ pub returns : goal.returns
 returns c =
     let start = c.args.rows.now in
     let numbers = c.as_slice-number-items.result.now in
-    let items = c.as_slice-number-items.ensures.value in
-    let is : c.loop-place.rows ≡ written start c.args.order.now.numbers.items =
+    let told = c.as_slice-number-items.ensures.value in
+    let is : c.loop-place.rows ≡ written start (items c.args.order.now.numbers) =
     sym (at_drop_all (λ xs. ranked_by c.loop-place.rows xs (c.len-n.result - c.loop-place.place)) numbers c.loop-place.place c.loop-place-test.false)
     ∙ c.loop-place.invariant
     ∙ ap (ranked_by start numbers) c.len-n.ensures.value
-    ∙ ap (λ xs. ranked_by start xs (length c.args.order.now.numbers.items)) items in
+    ∙ ap (λ xs. ranked_by start xs (length (items c.args.order.now.numbers))) told in
     record { rows = is; writes = written_writes start _ c.loop-place.rows is }

@@ -1,6 +1,7 @@
 use Rattle.bounds.proofs.prepared.CheckedTable.own.Goals as goal
 use Rattle.bounds.specs.Demand.{above}
 use Rattle.bounds.specs.Gathering.{Gathers, higher_form}
+use Rattle.shortlist.specs.Items.{items}
 use Rattle.table.proofs.Places.{on_board_core}
 use Rattle.table.specs.Rows.{on_core, row_at}
 use Rattle.table.specs.Sets.{members}
@@ -26,5 +27,5 @@ returns c =
       found = found.0;
       core_is = core_is;
       figures_is = sym (ap (λ (q : Row). q.figures) found.1);
-      gathers = subst (λ x. Gathers (λ j. (set j && not (eqb j i)) && on_core rows x j) (λ j. higher_form (row_at rows j)) 64 c.gather-higher.result.items) core_is c.gather-higher.ensures;
+      gathers = subst (λ x. Gathers (λ j. (set j && not (eqb j i)) && on_core rows x j) (λ j. higher_form (row_at rows j)) 64 (items c.gather-higher.result)) core_is c.gather-higher.ensures;
     }

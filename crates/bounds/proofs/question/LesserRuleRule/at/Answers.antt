@@ -3,11 +3,12 @@ use Rattle.bounds.proofs.Valued.{so_far, so_far_all, so_far_more, so_far_none, s
 use Rattle.bounds.proofs.question.LesserRuleRule.at.Goals as goal
 use Rattle.bounds.proofs.question.LesserRuleRule.at.Goals.{else-y-core, then-y-core}
 use Rattle.bounds.specs.Loads.{Total, no_sums, of_core}
+use Rattle.shortlist.specs.Items.{items}
 use Rattle.std.proofs.lemmas.List.{get_or-take, length-take}
 use Rattle.std.proofs.Math.Nat.{min-le_right}
 
 pub loop-y-init : goal.loop-y-init
-loop-y-init c = (so_far_none c.args.self.now.board.now c.args.self.now.own.now c.args.self.now.rivals.now.items c.args.window.length c.sums-own.result c.sums-own.ensures.value, c.sums-own.ensures.small.cost)
+loop-y-init c = (so_far_none c.args.self.now.board.now c.args.self.now.own.now (items c.args.self.now.rivals.now) c.args.window.length c.sums-own.result c.sums-own.ensures.value, c.sums-own.ensures.small.cost)
 
 pub total-sum-requires : goal.total-sum-requires
 total-sum-requires c = record {
@@ -30,12 +31,12 @@ loop-y-preserved c =
       | then-y-core w ↦
           let there : y < q.board.now.cores = omega (arith, c.loop-y-test.true, length-take q.board.now.cores c.sums_by_core-theirs.result) in
           let theirs = get_or (take q.board.now.cores c.sums_by_core-theirs.result) y no_sums in
-          let total = subst (Total (of_core y) t no_sums q.rivals.now.items) (sym (get_or-take q.board.now.cores c.sums_by_core-theirs.result y no_sums there)) (c.sums_by_core-theirs.ensures y (omega (arith, there, q.board.now.few_cores))) in (
-            omega (arith, w.sum-is, c.loop-y.invariant.0, w.total-sum.ensures.value, so_far_more q.board.now q.own.now q.rivals.now.items t y own.result theirs w.lesser-shares.result w.if-y-core.true own.ensures.value total w.lesser-shares.ensures),
+          let total = subst (Total (of_core y) t no_sums (items q.rivals.now)) (sym (get_or-take q.board.now.cores c.sums_by_core-theirs.result y no_sums there)) (c.sums_by_core-theirs.ensures y (omega (arith, there, q.board.now.few_cores))) in (
+            omega (arith, w.sum-is, c.loop-y.invariant.0, w.total-sum.ensures.value, so_far_more q.board.now q.own.now (items q.rivals.now) t y own.result theirs w.lesser-shares.result w.if-y-core.true own.ensures.value total w.lesser-shares.ensures),
             omega (arith, w.sum-is, c.loop-y.invariant.1, w.total-sum.ensures.small, q.board.now.few_resources),
           )
       | else-y-core w ↦ (
-        omega (arith, w.sum-is, c.loop-y.invariant.0, so_far_same q.board.now q.own.now q.rivals.now.items t y w.if-y-core.false),
+        omega (arith, w.sum-is, c.loop-y.invariant.0, so_far_same q.board.now q.own.now (items q.rivals.now) t y w.if-y-core.false),
         omega (arith, w.sum-is, c.loop-y.invariant.1),
       )
     ]
@@ -44,4 +45,4 @@ pub returns : goal.returns
 returns c =
     let q = c.args.self.now in
     let last : c.loop-y.y ≡ q.board.now.cores = omega (arith, c.loop-y-test.false, c.loop-y.auto.y-end, length-take q.board.now.cores c.sums_by_core-theirs.result) in
-    c.loop-y.invariant.0 ∙ ap (so_far q.board.now q.own.now q.rivals.now.items c.args.window.length) last ∙ so_far_all q.board.now q.own.now q.rivals.now.items c.args.window.length
+    c.loop-y.invariant.0 ∙ ap (so_far q.board.now q.own.now (items q.rivals.now) c.args.window.length) last ∙ so_far_all q.board.now q.own.now (items q.rivals.now) c.args.window.length

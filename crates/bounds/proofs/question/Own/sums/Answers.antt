@@ -1,6 +1,7 @@
 use Rattle.std.proofs.Common.{rules, get_or, ◌≡◌, ℕ, ◌+◌, ◌<◌, ◌≤◌, sum_by, sym, ap, ◌∙◌, subst}
 use Rattle.bounds.proofs.question.Own.sums.Goals as goal
 use Rattle.bounds.specs.Loads.{weight_at}
+use Rattle.shortlist.specs.Items.{items}
 use Rattle.table.proofs.Limited.{each_small, limited}
 
 pub sums-requires : goal.sums-requires
@@ -20,7 +21,7 @@ returns c =
     record {
       value = record {
         cost = c.sums.ensures.total.cost;
-        shared = λ r l. c.sums.ensures.total.shared r l ∙ ap (λ n. n + sum_by (weight_at r c.args.window.length) own.higher.items) (same r l);
+        shared = λ r l. c.sums.ensures.total.shared r l ∙ ap (λ n. n + sum_by (weight_at r c.args.window.length) (items own.higher)) (same r l);
       };
       small = c.sums.ensures.small;
     }

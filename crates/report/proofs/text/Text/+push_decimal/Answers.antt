@@ -1,6 +1,7 @@
 use Rattle.report.proofs.text.Text.+push_decimal.Goals as goal
 use Rattle.report.proofs.text.Text.+push_decimal.Goals.{else-n-ge10, then-n-ge10}
 use Rattle.report.specs.Texts.{shown}
+use Rattle.shortlist.specs.Items.{items}
 use Rattle.std.proofs.Common.{◌≡◌, ℕ, ◌+◌, ◌/◌, ◌%◌, ◌^◌, ◌<◌, ◌≤◌, List, [], ◌∷◌, ◌++◌, length, decimal, sym, ap, ◌∙◌, arith}
 use Rattle.std.proofs.lemmas.Fmt.{decimal_digit, decimal_step, length-decimal-le}
 use Rattle.std.proofs.lemmas.List.{append_assoc, length-append}
@@ -26,20 +27,20 @@ one start front n low e =
 
 pub invariant_of-self : goal.invariant_of-self
 invariant_of-self t c =
-    let before : Before (shown c.args.self.now) c.if-n-ge10.self.bytes.items c.args.n =
+    let before : Before (shown c.args.self.now) (items c.if-n-ge10.self.bytes) c.args.n =
     elim c.if-n-ge10.branch [
-      | then-n-ge10 w ↦ more (shown c.args.self.now) c.if-n-ge10.self.bytes.items c.args.n w.if-n-ge10.true c.ranges.n.fits (ap shown w.self-is ∙ w.push_decimal.ensures.shows)
-      | else-n-ge10 w ↦ one (shown c.args.self.now) c.if-n-ge10.self.bytes.items c.args.n (omega (arith, w.if-n-ge10.false)) (ap shown w.self-is)
+      | then-n-ge10 w ↦ more (shown c.args.self.now) (items c.if-n-ge10.self.bytes) c.args.n w.if-n-ge10.true c.ranges.n.fits (ap shown w.self-is ∙ w.push_decimal.ensures.shows)
+      | else-n-ge10 w ↦ one (shown c.args.self.now) (items c.if-n-ge10.self.bytes) c.args.n (omega (arith, w.if-n-ge10.false)) (ap shown w.self-is)
     ] in
-    let room : length c.if-n-ge10.self.bytes.items < 8192 = omega (arith, c.requires, before.short) in
+    let room : length (items c.if-n-ge10.self.bytes) < 8192 = omega (arith, c.requires, before.short) in
     omega (arith, c.requires, c.push.ensures.len room, before.short)
 
 pub returns : goal.returns
 returns t c =
-    let before : Before (shown c.args.self.now) c.if-n-ge10.self.bytes.items c.args.n =
+    let before : Before (shown c.args.self.now) (items c.if-n-ge10.self.bytes) c.args.n =
     elim c.if-n-ge10.branch [
-      | then-n-ge10 w ↦ more (shown c.args.self.now) c.if-n-ge10.self.bytes.items c.args.n w.if-n-ge10.true c.ranges.n.fits (ap shown w.self-is ∙ w.push_decimal.ensures.shows)
-      | else-n-ge10 w ↦ one (shown c.args.self.now) c.if-n-ge10.self.bytes.items c.args.n (omega (arith, w.if-n-ge10.false)) (ap shown w.self-is)
+      | then-n-ge10 w ↦ more (shown c.args.self.now) (items c.if-n-ge10.self.bytes) c.args.n w.if-n-ge10.true c.ranges.n.fits (ap shown w.self-is ∙ w.push_decimal.ensures.shows)
+      | else-n-ge10 w ↦ one (shown c.args.self.now) (items c.if-n-ge10.self.bytes) c.args.n (omega (arith, w.if-n-ge10.false)) (ap shown w.self-is)
     ] in
-    let room : length c.if-n-ge10.self.bytes.items < 8192 = omega (arith, c.requires, before.short) in
+    let room : length (items c.if-n-ge10.self.bytes) < 8192 = omega (arith, c.requires, before.short) in
     record { shows = c.push.ensures.room room ∙ before.shows; near = omega (arith, c.push.ensures.len room, before.short) }
