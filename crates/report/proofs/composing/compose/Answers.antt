@@ -1,4 +1,3 @@
-use Rattle.ordering.specs.Orders.{Answers}
 use Rattle.report.proofs.Added.{then}
 use Rattle.report.proofs.composing.compose.Goals as goal
 use Rattle.report.specs.Lines.{head_line}
