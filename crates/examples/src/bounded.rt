@@ -1,7 +1,12 @@
 // The two tests on small tables.
+ghost use Rattle.std.specs.Prelude.{◌≡◌, Ok};
+
 use bounds::composable::Composable;
 use bounds::deadline::Deadline;
+use bounds::prepared::RivalTable;
 use figures::{task_row, worked_board, worked_rows};
+use std::alloc::AllocError;
+use std::panic::Expect;
 use table::board::Board;
 use table::row::{Figures, Row};
 use table::set::TaskSet;
@@ -44,6 +49,25 @@ fn worked(rt: HostRuntime) {
         assert_eq!(rt; wide(&board, &rows, number), bound);
     }
     assert_eq!(rt; own(&board, &rows, 2), Some(8));
+}
+
+// A clone of a prepared table is that table.
+fn cloned(prepared: &RivalTable) -> Result<RivalTable, AllocError>
+    ensures { result ≡ Ok prepared.now }
+{
+    prepared.clone()
+}
+
+// Whoever prepared a table may use it by value more than once.
+#[test]
+fn copied(rt: HostRuntime) {
+    let rows = worked_rows();
+    let prepared = Deadline.prepare(&worked_board(), &rows);
+    let above = TaskSet::higher_ranked(&rows, 2);
+    let again = cloned(&prepared).ok().expect(&rt, "not cloned");
+    for again in [prepared, prepared, again] {
+        assert_eq!(rt; Deadline.ask(&again, 2, &above), Some(7));
+    }
 }
 
 // A release at the very end of the window is not counted.

@@ -1,10 +1,15 @@
 // Orders, judging, and all response times together, on small tables.
+ghost use Rattle.std.specs.Prelude.{◌≡◌, Ok};
+
 use bounds::deadline::Deadline;
 use bounds::response::{Unsettled, respond, settle};
 use figures::{worked_board, worked_rows};
 use ordering::judging::find_unbound;
+use ordering::order::Order;
 use ordering::search::find_order;
 use ordering::writing::order_core;
+use shortlist::ShortList;
+use std::alloc::AllocError;
 use std::panic::Expect;
 use table::board::Board;
 use table::row::{Figures, Row};
@@ -48,6 +53,35 @@ fn worked_order(rt: HostRuntime) {
 fn just_fits(rt: HostRuntime) {
     let told = find_order(&ONE_CORE, &two(12), 0, &Deadline);
     assert_eq!(rt; told.ok().map(|found| found.trials), Some(2));
+}
+
+const NO_TASK: Order = Order {
+    numbers: ShortList {
+        places: [0; 64],
+        len: 0,
+    },
+};
+
+// A clone of an order is that order.
+fn cloned(order: &Order) -> Result<Order, AllocError>
+    ensures { result ≡ Ok order.now }
+{
+    order.clone()
+}
+
+// Whoever is handed an order may use it by value more than once.
+#[test]
+fn copied(rt: HostRuntime) {
+    let told = find_order(&ONE_CORE, &two(12), 0, &Deadline);
+    let found = told.ok().expect(&rt, "refused");
+    let (order, whole) = (found.order, found);
+    let again = cloned(&order).ok().expect(&rt, "not cloned");
+    for again in [order, order, whole.order, found.order, again] {
+        assert_eq!(rt; again.numbers.as_slice(), [0, 1].as_slice());
+    }
+    for none in [NO_TASK, NO_TASK] {
+        assert_eq!(rt; none.numbers.len(), 0);
+    }
 }
 
 // Where no order passes, no rank is written.

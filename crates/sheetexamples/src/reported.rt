@@ -1,15 +1,37 @@
 // Reports, saved files, and what the program prints.
+ghost use Rattle.std.specs.Prelude.{◌≡◌, Ok};
+
 use crate::edited::{TWO_CORES, entry, number_of};
 use bounds::deadline::Deadline;
 use examples::files::{changed, mended, worked_file};
 use report::analysing::analyse;
 use report::reporting::report;
+use report::text::Text;
 use sheet::open::OpenSheet;
+use std::alloc::AllocError;
+use std::panic::Expect;
 use std::process::Abort;
 use table::row::Row;
 
 fn prints(rt: &impl Abort, file: &[u8], text: &[u8]) {
     assert_eq!(rt; analyse(file).as_bytes(), text);
+}
+
+// A clone of a text is that text.
+fn cloned(text: &Text) -> Result<Text, AllocError>
+    ensures { result ≡ Ok text.now }
+{
+    text.clone()
+}
+
+// Whoever is handed a text may use it by value more than once.
+#[test]
+fn copied(rt: HostRuntime) {
+    let text = analyse(&[]);
+    let again = cloned(&text).ok().expect(&rt, "not cloned");
+    for again in [text, text, again] {
+        assert_eq!(rt; again.as_bytes(), b"refused 2 entered 0\n".as_slice());
+    }
 }
 
 #[test]
