@@ -64,8 +64,8 @@ fn copied(rt: HostRuntime) {
     let rows = worked_rows();
     let prepared = Deadline.prepare(&worked_board(), &rows);
     let above = TaskSet::higher_ranked(&rows, 2);
-    let again = cloned(&prepared).ok().expect(&rt, "not cloned");
-    for again in [prepared, prepared, again] {
+    let clone = cloned(&prepared).ok().expect(&rt, "not cloned");
+    for again in [prepared, prepared, clone] {
         assert_eq!(rt; Deadline.ask(&again, 2, &above), Some(7));
     }
 }

@@ -75,8 +75,8 @@ fn copied(rt: HostRuntime) {
     let told = find_order(&ONE_CORE, &two(12), 0, &Deadline);
     let found = told.ok().expect(&rt, "refused");
     let (order, whole) = (found.order, found);
-    let again = cloned(&order).ok().expect(&rt, "not cloned");
-    for again in [order, order, whole.order, found.order, again] {
+    let clone = cloned(&order).ok().expect(&rt, "not cloned");
+    for again in [order, order, whole.order, found.order, clone] {
         assert_eq!(rt; again.numbers.as_slice(), [0, 1].as_slice());
     }
     for none in [NO_TASK, NO_TASK] {

@@ -28,8 +28,8 @@ fn cloned(text: &Text) -> Result<Text, AllocError>
 #[test]
 fn copied(rt: HostRuntime) {
     let text = analyse(&[]);
-    let again = cloned(&text).ok().expect(&rt, "not cloned");
-    for again in [text, text, again] {
+    let clone = cloned(&text).ok().expect(&rt, "not cloned");
+    for again in [text, text, clone] {
         assert_eq!(rt; again.as_bytes(), b"refused 2 entered 0\n".as_slice());
     }
 }
